@@ -1,0 +1,79 @@
+-- "Picture": the bytes that show a state. A thread's status (document 01: place) follows from who holds it, its next from the list that it is in.
+-- Assumes nothing.
+use Prim.Native.Nat.{ℕ, zero, suc, _/_, _%_}
+use mathlib.Core.Bool.{Bool}
+use mathlib.Core.List.{List, [], _∷_, _++_}
+use lib.Dec.{eqb, leb}
+use Rattle.reference.specs.Lists.{choose, if-empty, find, occurrences, tabulate}
+use Rattle.reference.specs.State.{State, Processor, Mutex, Life, new, live, terminated, row, mutex-at, life-at}
+
+-- a two-byte field, high byte first
+abbrev pub two : ℕ → List ℕ
+two n = n / 256 ∷ n % 256 ∷ []
+
+-- the first of a queue, 0 for none
+abbrev pub first : List ℕ → ℕ
+first q = if-empty q 0 (λ x rest. x)
+
+-- the one behind k in a queue, 0 for none
+unfoldable pub behind : ℕ → List ℕ → ℕ
+behind k [] = 0
+behind k (x ∷ rest) = choose (eqb x k) (first rest) (behind k rest)
+
+abbrev pub stands-in : ℕ → List ℕ → Bool
+stands-in k q = leb 1 (occurrences k q)
+
+-- status 0 new (unborn), 1 ready, 2 waiting, 3 current (loaded), 4 transit (hand), 5 terminated (ended); its mutex or processor, else 0; next in the queue
+pub record Entry : Type 0 where
+  pub status : ℕ
+  pub holder : ℕ
+  pub next : ℕ
+
+abbrev pub entry : ℕ → ℕ → ℕ → Entry
+entry s h n = record { status = s; holder = h; next = n }
+
+-- of a thread that nobody holds
+abbrev pub unheld : Life → Entry
+unheld new = entry 0 0 0
+unheld live = entry 0 0 0
+unheld terminated = entry 5 0 0
+
+-- an entry by the number of the holder that was found, or the next one to ask where there is none
+abbrev pub or-else : ℕ → (ℕ → Entry) → Entry → Entry
+or-else zero made later = later
+or-else (suc n) made later = made (suc n)
+
+unfoldable pub thread-entry : State → ℕ → Entry
+thread-entry s k =
+    choose (stands-in k (s .ready)) (entry 1 0 (behind k (s .ready)))
+    (or-else (find (λ (x : Mutex). stands-in k (x .queue)) (s .mutexes)) (λ m. entry 2 m (behind k (mutex-at s m .queue)))
+    (or-else (find (λ (r : Processor). eqb (r .current) k) (s .processors)) (λ p. entry 3 p 0)
+    (or-else (find (λ (r : Processor). eqb (r .transit) k) (s .processors)) (λ p. entry 4 p 0)
+    (unheld (life-at s k)))))
+
+-- header, 8 bytes: P, T, M, first of the ready chain, standing moves (2)
+abbrev pub header-bytes : State → List ℕ
+header-bytes s = s .P ∷ s .T ∷ s .M ∷ first (s .ready) ∷ two (s .applied) ++ 0 ∷ 0 ∷ []
+
+-- 12 bytes: position, loaded, hand, mutex, seen processor, zero, seen rank (2), own rank (2), answer, zero
+abbrev pub processor-bytes : Processor → List ℕ
+processor-bytes r =
+    row (r .position) .number ∷ r .current ∷ r .transit ∷ r .mutex ∷ r .observed .processor ∷ 0 ∷ two (r .observed .sequence) ++ two (r .sequence) ++ r .answer ∷ 0 ∷ []
+
+-- 8 bytes: count, first of chain, owner, token processor, token rank (2)
+abbrev pub mutex-bytes : Mutex → List ℕ
+mutex-bytes x = x .count ∷ first (x .queue) ∷ x .owner ∷ x .token .processor ∷ two (x .token .sequence) ++ 0 ∷ 0 ∷ []
+
+-- 4 bytes: place, its mutex or processor, next in chain
+abbrev pub entry-bytes : Entry → List ℕ
+entry-bytes e = e .status ∷ e .holder ∷ e .next ∷ 0 ∷ []
+
+unfoldable pub concat : {A : Type 0} → (A → List ℕ) → List A → List ℕ
+concat f [] = []
+concat f (x ∷ rest) = f x ++ concat f rest
+
+-- header, P processor records, M mutex records, T thread records
+unfoldable pub picture : State → List ℕ
+picture s =
+    header-bytes s ++ concat processor-bytes (s .processors) ++ concat mutex-bytes (s .mutexes) ++
+    concat entry-bytes (tabulate (thread-entry s) 1 (s .T))

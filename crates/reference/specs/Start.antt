@@ -1,0 +1,49 @@
+-- "A bench": the start table (here a configuration) with its ranges, and the state at start.
+-- Assumes nothing.
+use Prim.Native.Nat.{ℕ, suc, _-_}
+use mathlib.Core.Bool.{_&&_, not}
+use lib.Dec.{leb}
+use lib.ListN.{replicate}
+use Rattle.reference.specs.Refusal.{bad-config, refuse}
+use Rattle.reference.specs.Lists.{choose, in-range, tabulate}
+use Rattle.reference.specs.State.{Processor, State, Life, new, live, App, CI2, Line, no-token, free-mutex}
+
+-- P processors, T threads, M mutexes, of the threads B at first created (document 01: born threads)
+pub record Config : Type 0 where
+  pub P : ℕ
+  pub T : ℕ
+  pub M : ℕ
+  pub B : ℕ
+
+-- P 1 to 8, T 1 to 32, M 1 to 8, B 1 to T
+unfoldable pub config-cause : Config → ℕ
+config-cause c =
+    refuse (not (in-range 1 8 (c .P) && in-range 1 32 (c .T) && in-range 1 8 (c .M) && in-range 1 (c .T) (c .B))) bad-config 0
+
+abbrev pub idle-at : Line → ℕ → Processor
+idle-at l k = record { position = l; current = k; transit = 0; mutex = 0; observed = no-token; sequence = 0; answer = 0 }
+
+-- thread k ≤ B is loaded on processor k; a processor without a thread stands at CI2
+abbrev pub first-processor : ℕ → ℕ → Processor
+first-processor b k = choose (leb k b) (idle-at App k) (idle-at CI2 0)
+
+-- threads above B are new
+abbrev pub first-life : ℕ → ℕ → Life
+first-life b k = choose (leb k b) live new
+
+abbrev pub itself : ℕ → ℕ
+itself k = k
+
+-- threads P + 1 to B are in the ready queue, lowest first; all else is zero
+unfoldable pub start : Config → State
+start c =
+    record {
+      P = c .P;
+      T = c .T;
+      M = c .M;
+      ready = tabulate itself (suc (c .P)) (c .B - c .P);
+      processors = tabulate (first-processor (c .B)) 1 (c .P);
+      mutexes = replicate (c .M) free-mutex;
+      lives = tabulate (first-life (c .B)) 1 (c .T);
+      applied = 0;
+    }
