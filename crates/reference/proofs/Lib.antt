@@ -11,4 +11,5 @@ pub mod Start
 pub mod Lives
 pub mod Bound
 pub mod Laws
+pub mod Break
 pub mod Session

@@ -5,6 +5,7 @@ pub mod State
 pub mod Start
 pub mod Step
 pub mod Cause
+pub mod Break
 pub mod History
 pub mod Safe
 pub mod Snapshot
