@@ -1,0 +1,222 @@
+-- Where a thread is: in a state that holds each thread once each thread has exactly one spot, and its entry in the picture follows from it.
+-- Assumes nothing.
+use Prim.Native.Nat.{ℕ, zero, suc, _+_, _≤_}
+use mathlib.Core.Bool.{Bool, false, not}
+use mathlib.Core.List.{[], _∷_}
+use mathlib.Core.Path.{_≡_, refl, ap, sym, _∙_}
+use native.Mathlib.Nat.{not-suc-le-zero}
+use native.Mathlib.Omega.{arith}
+use native.Mathlib.Decide.{ℕ-discrete, decLe}
+use lib.Dec.{eqb, leb}
+use lib.ListN.{length, getD}
+use borrow.Author.Tests.{eq-eqb, ne-eqb, le-leb, lt-leb}
+use Rattle.reference.specs.Lists.{find, sum, is, occurrences, choose}
+use Rattle.reference.specs.State as reference
+use Rattle.reference.specs.State.{Life, live, same-life, nobody, free-mutex, processor-at, mutex-at, life-at}
+use Rattle.reference.specs.Safe.{In, one-if, held}
+use Rattle.reference.specs.Snapshot.{Entry, entry, thread-entry, behind, stands-in, or-else, unheld}
+use Rattle.reference.proofs.Sums.{is-same, is-other, sum-at, sum-some}
+use Rattle.state.specs.Allowed.{Allowed}
+use Rattle.association.proofs.Tables.{find-none, find-one, sum-plus}
+
+pub data Spot : Type 0 where
+  ready : Spot
+  waiting : ℕ → Spot
+  current : ℕ → Spot
+  transit : ℕ → Spot
+  new : Spot
+  terminated : Spot
+
+-- thread k is there
+abbrev pub AtSpot : reference.State → ℕ → Spot → Type 0
+AtSpot s k ready = 1 ≤ occurrences k (s .ready)
+AtSpot s k (waiting m) = In (s .M) m × (1 ≤ occurrences k (mutex-at s m .queue))
+AtSpot s k (current p) = In (s .P) p × (processor-at s p .current ≡ k)
+AtSpot s k (transit p) = In (s .P) p × (processor-at s p .transit ≡ k)
+AtSpot s k new = life-at s k ≡ reference.new
+AtSpot s k terminated = life-at s k ≡ reference.terminated
+
+-- the entry of a thread that is there
+abbrev pub entry-for : reference.State → ℕ → Spot → Entry
+entry-for s k ready = entry 1 0 (behind k (s .ready))
+entry-for s k (waiting m) = entry 2 m (behind k (mutex-at s m .queue))
+entry-for s k (current p) = entry 3 p 0
+entry-for s k (transit p) = entry 4 p 0
+entry-for s k new = entry 0 0 0
+entry-for s k terminated = entry 5 0 0
+
+-- P processors, M mutexes, T threads, each in exactly one place
+pub record Placed (s : reference.State) : Type 0 where
+  pub processors : length (s .processors) ≡ s .P
+  pub mutexes : length (s .mutexes) ≡ s .M
+  pub lives : length (s .lives) ≡ s .T
+  pub one-place : (k : ℕ) → In (s .T) k → held s k + one-if (not (same-life (life-at s k) live)) ≡ 1
+
+pub allowed-placed : {s : reference.State} → Allowed s → Placed s
+allowed-placed h = record { processors = h .processors; mutexes = h .mutexes; lives = h .lives; one-place = h .one-place }
+
+-- ---- the parts of the count
+
+-- how often k stands in a mutex's queue, in a processor's registers, and the test for it
+abbrev queue-share : ℕ → reference.Mutex → ℕ
+queue-share k x = occurrences k (x .queue)
+
+abbrev queue-test : ℕ → reference.Mutex → Bool
+queue-test k x = stands-in k (x .queue)
+
+abbrev current-share : ℕ → reference.Processor → ℕ
+current-share k r = is k (r .current)
+
+abbrev current-test : ℕ → reference.Processor → Bool
+current-test k r = eqb (r .current) k
+
+abbrev transit-share : ℕ → reference.Processor → ℕ
+transit-share k r = is k (r .transit)
+
+abbrev transit-test : ℕ → reference.Processor → Bool
+transit-test k r = eqb (r .transit) k
+
+-- in the queues of the mutexes, in the current registers, in the transit registers; and 1 for a thread that is new or terminated
+abbrev waits : reference.State → ℕ → ℕ
+waits s k = sum (queue-share k) (s .mutexes)
+
+abbrev loads : reference.State → ℕ → ℕ
+loads s k = sum (current-share k) (s .processors)
+
+abbrev carries : reference.State → ℕ → ℕ
+carries s k = sum (transit-share k) (s .processors)
+
+abbrev rests : Life → ℕ
+rests l = one-if (not (same-life l live))
+
+is-one : (k a : ℕ) → 1 ≤ is k a → a ≡ k
+is-one k a h = elim (ℕ-discrete k a) [ yes e ↦ sym e | no n ↦ absurd (omega (arith, is-other k a n)) ]
+
+one-is : (k a : ℕ) → a ≡ k → 1 ≤ is k a
+one-is k a e = rw e (omega (arith, is-same k))
+
+is-test : (k a : ℕ) → eqb a k ≡ leb 1 (is k a)
+is-test k a =
+    elim (ℕ-discrete a k) [
+      | yes e ↦ eq-eqb a k e ∙ sym (le-leb 1 (is k a) (one-is k a e))
+      | no n ↦ ne-eqb a k n ∙ sym (lt-leb 1 (is k a) (omega (arith, is-other k a (λ e. n (sym e)))))
+    ]
+
+module _ (s : reference.State) (k : ℕ) where
+  -- an entry by what is found
+  abbrev chosen : Bool → ℕ → ℕ → ℕ → Life → Entry
+  chosen b m c t l =
+      choose b (entry 1 0 (behind k (s .ready)))
+      (or-else m (λ m. entry 2 m (behind k (mutex-at s m .queue))) (or-else c (λ p. entry 3 p 0) (or-else t (λ p. entry 4 p 0) (unheld l))))
+
+  -- the number of the mutex whose queue has k, of the processor whose current or transit register has it, 0 for none
+  abbrev queued : ℕ
+  queued = find (queue-test k) (s .mutexes)
+
+  abbrev loaded : ℕ
+  loaded = find (current-test k) (s .processors)
+
+  abbrev carried : ℕ
+  carried = find (transit-test k) (s .processors)
+
+  found : {b : Bool} {m c t : ℕ} {l : Life} → stands-in k (s .ready) ≡ b → queued ≡ m → loaded ≡ c → carried ≡ t → life-at s k ≡ l → thread-entry s k ≡ chosen b m c t l
+  unfolding thread-entry
+  found e f g h i = rw (← e, ← f, ← g, ← h, ← i)
+
+module _ (s : reference.State) (h : Placed s) (k : ℕ) (r : In (s .T) k) where
+  one : occurrences k (s .ready) + waits s k + loads s k + carries s k + rests (life-at s k) ≡ 1
+  one = omega (arith, h .one-place k r, sum-plus (current-share k) (transit-share k) (s .processors))
+
+  not-ready : occurrences k (s .ready) ≡ 0 → stands-in k (s .ready) ≡ false
+  not-ready e = lt-leb 1 (occurrences k (s .ready)) (omega arith)
+
+  not-queued : waits s k ≡ 0 → queued s k ≡ 0
+  not-queued = find-none (queue-share k) (queue-test k) (λ x. refl) (s .mutexes)
+
+  not-loaded : loads s k ≡ 0 → loaded s k ≡ 0
+  not-loaded = find-none (current-share k) (current-test k) (λ r. is-test k (r .current)) (s .processors)
+
+  not-carried : carries s k ≡ 0 → carried s k ≡ 0
+  not-carried = find-none (transit-share k) (transit-test k) (λ r. is-test k (r .transit)) (s .processors)
+
+  pub spot-entry : (x : Spot) → AtSpot s k x → thread-entry s k ≡ entry-for s k x
+  spot-entry ready a = found s k (le-leb 1 (occurrences k (s .ready)) a) refl refl refl refl
+  spot-entry (waiting zero) a = absurd (not-suc-le-zero (a .0 .0))
+  spot-entry (waiting (suc m)) a =
+      let l : In (length (s .mutexes)) (suc m) = omega (arith, h .mutexes) in
+      let g : occurrences k (mutex-at s (suc m) .queue) ≤ waits s k = sum-at (queue-share k) (s .mutexes) (suc m) free-mutex l in
+      found s k (not-ready (omega (arith, one)))
+      (find-one (queue-share k) (queue-test k) (λ x. refl) (s .mutexes) (suc m) free-mutex l (a .1) (omega (arith, one)))
+      refl refl refl
+  spot-entry (current zero) a = absurd (not-suc-le-zero (a .0 .0))
+  spot-entry (current (suc p)) a =
+      let l : In (length (s .processors)) (suc p) = omega (arith, h .processors) in
+      let w : 1 ≤ is k (processor-at s (suc p) .current) = one-is k (processor-at s (suc p) .current) (a .1) in
+      let g : is k (processor-at s (suc p) .current) ≤ loads s k = sum-at (current-share k) (s .processors) (suc p) nobody l in
+      found s k (not-ready (omega (arith, one))) (not-queued (omega (arith, one)))
+      (find-one (current-share k) (current-test k) (λ r. is-test k (r .current)) (s .processors) (suc p) nobody l w (omega (arith, one)))
+      refl refl
+  spot-entry (transit zero) a = absurd (not-suc-le-zero (a .0 .0))
+  spot-entry (transit (suc p)) a =
+      let l : In (length (s .processors)) (suc p) = omega (arith, h .processors) in
+      let w : 1 ≤ is k (processor-at s (suc p) .transit) = one-is k (processor-at s (suc p) .transit) (a .1) in
+      let g : is k (processor-at s (suc p) .transit) ≤ carries s k = sum-at (transit-share k) (s .processors) (suc p) nobody l in
+      found s k (not-ready (omega (arith, one))) (not-queued (omega (arith, one))) (not-loaded (omega (arith, one)))
+      (find-one (transit-share k) (transit-test k) (λ r. is-test k (r .transit)) (s .processors) (suc p) nobody l w (omega (arith, one)))
+      refl
+  spot-entry new a =
+      let w : rests (life-at s k) ≡ 1 = ap rests a in
+      found s k (not-ready (omega (arith, one))) (not-queued (omega (arith, one))) (not-loaded (omega (arith, one))) (not-carried (omega (arith, one))) a
+  spot-entry terminated a =
+      let w : rests (life-at s k) ≡ 1 = ap rests a in
+      found s k (not-ready (omega (arith, one))) (not-queued (omega (arith, one))) (not-loaded (omega (arith, one))) (not-carried (omega (arith, one))) a
+
+  -- ---- each thread has a spot
+
+  by-life : (l : Life) → life-at s k ≡ l → rests l ≡ 1 → (x : Spot) × AtSpot s k x
+  by-life reference.new e h = (new, e)
+  by-life reference.live e h = absurd (omega arith)
+  by-life reference.terminated e h = (terminated, e)
+
+  in-processor : occurrences k (s .ready) ≡ 0 → waits s k ≡ 0 → (x : Spot) × AtSpot s k x
+  in-processor e f =
+      elim (decLe 1 (loads s k)) [
+        | yes g ↦ let w = sum-some (current-share k) (s .processors) nobody g in
+            (current (w .0), (omega (arith, w .1, h .processors), is-one k (processor-at s (w .0) .current) (w .2)))
+        | no n ↦
+            elim (decLe 1 (carries s k)) [
+              | yes g ↦ let w = sum-some (transit-share k) (s .processors) nobody g in
+                  (transit (w .0), (omega (arith, w .1, h .processors), is-one k (processor-at s (w .0) .transit) (w .2)))
+              | no o ↦ by-life (life-at s k) refl (omega (arith, one))
+            ]
+      ]
+
+  pub spot-of : (x : Spot) × AtSpot s k x
+  spot-of =
+      elim (decLe 1 (occurrences k (s .ready))) [
+        | yes g ↦ (ready, g)
+        | no n ↦
+            elim (decLe 1 (waits s k)) [
+              | yes g ↦ let w = sum-some (queue-share k) (s .mutexes) free-mutex g in (waiting (w .0), (omega (arith, w .1, h .mutexes), w .2))
+              | no o ↦ in-processor (omega arith) (omega arith)
+            ]
+      ]
+
+-- ---- and only one
+
+-- the spot of an entry
+spot-by : ℕ → ℕ → Spot
+spot-by n h = getD (new ∷ ready ∷ waiting h ∷ current h ∷ transit h ∷ terminated ∷ []) n new
+
+spot-back : (s : reference.State) (k : ℕ) (x : Spot) → spot-by (entry-for s k x .status) (entry-for s k x .holder) ≡ x
+unfolding spot-by
+spot-back s k ready = refl
+spot-back s k (waiting m) = refl
+spot-back s k (current p) = refl
+spot-back s k (transit p) = refl
+spot-back s k new = refl
+spot-back s k terminated = refl
+
+pub spot-one : (s : reference.State) → Placed s → (k : ℕ) → In (s .T) k → (x y : Spot) → AtSpot s k x → AtSpot s k y → x ≡ y
+spot-one s h k r x y a b =
+    sym (spot-back s k x) ∙ ap (λ (e : Entry). spot-by (e .status) (e .holder)) (sym (spot-entry s h k r x a) ∙ spot-entry s h k r y b) ∙ spot-back s k y

@@ -1,0 +1,76 @@
+-- A record that keeps the rules shows exactly one state, which is allowed, and an allowed state is shown by exactly one such record.
+-- Assumes nothing.
+use Prim.Native.Nat.{ℕ}
+use mathlib.Core.Bool.{true}
+use mathlib.Core.Path.{_≡_, ap, sym, _∙_}
+use Rattle.state.specs.declared.State.{State}
+use Rattle.state.specs.declared.Session.{Session}
+use Rattle.state.specs.Association.{encode, decode, queue-at, thread-row, processor-record, mutex-record, session-record}
+use Rattle.state.specs.Rules.{state-ok, session-ok}
+use Rattle.state.specs.Allowed.{Allowed}
+use Rattle.state.proofs.Sized.{Sized}
+use Rattle.reference.specs.Lists.{in-range}
+use Rattle.reference.specs.State as reference
+use Rattle.reference.specs.State.{processor-at, mutex-at}
+use Rattle.reference.specs.Snapshot.{first}
+use Rattle.reference.specs.Safe.{In}
+use Rattle.reference.proofs.Tests.{both, both-left, both-right, range-true, true-range}
+use Rattle.reference.proofs.Sums.{length-tabulate}
+use Rattle.shown.proofs.Encode.{encode-decode, decode-allowed}
+use Rattle.shown.proofs.Decode.{decode-encode, encode-ok}
+
+-- the record keeps the rules and shows the state
+pub record Shows (r : State) (s : reference.State) : Type 0 where
+  pub sized : Sized r
+  pub kept : state-ok r ≡ true
+  pub shown : decode r ≡ s
+
+pub encode-sized : (s : reference.State) → Sized (encode s)
+unfolding encode
+encode-sized s =
+    record {
+      processors = length-tabulate (λ p. processor-record (processor-at s p)) 0 9;
+      mutexes = length-tabulate (λ m. mutex-record (mutex-at s m)) 0 9;
+      firsts = length-tabulate (λ q. first (queue-at s q)) 0 9;
+      threads = length-tabulate (thread-row s) 0 33;
+    }
+
+-- an allowed state is shown by its record,
+pub allowed-shown : (s : reference.State) → Allowed s → Shows (encode s) s
+allowed-shown s h = record { sized = encode-sized s; kept = encode-ok s h; shown = decode-encode s h }
+
+-- by no other,
+pub shown-by : (r : State) (s : reference.State) → Shows r s → r ≡ encode s
+shown-by r s h = sym (encode-decode r (h .sized) (h .kept)) ∙ ap encode (h .shown)
+
+-- and what is shown is allowed
+pub shown-allowed : (r : State) (s : reference.State) → Shows r s → Allowed s
+shown-allowed r s h = rw (← (h .shown)) (decode-allowed r (h .sized) (h .kept))
+
+-- two allowed states with one record are the same
+pub encode-one : (s e : reference.State) → Allowed s → Allowed e → encode s ≡ encode e → s ≡ e
+encode-one s e h g z = sym (decode-encode s h) ∙ ap decode z ∙ decode-encode e g
+
+-- ---- session records
+
+pub session-record-ok : (s : reference.State) (b : ℕ) → Allowed s → In (s .T) b → session-ok (session-record s b) ≡ true
+unfolding session-ok encode
+session-record-ok s b h i = both (encode-ok s h) (true-range 1 (s .T) b (i .0) (i .1))
+
+-- what is known of a session record that keeps the rules
+pub record Held (r : Session) : Type 0 where
+  pub state : state-ok (r .state) ≡ true
+  pub initial : In (r .state .t) (r .initial)
+  pub allowed : Allowed (decode (r .state))
+  pub same : session-record (decode (r .state)) (r .initial) ≡ r
+
+pub session-held : (r : Session) → Sized (r .state) → session-ok r ≡ true → Held r
+unfolding session-ok
+session-held r z e =
+    let k : state-ok (r .state) ≡ true = both-left (state-ok (r .state)) (in-range 1 (r .state .t) (r .initial)) e in
+    record {
+      state = k;
+      initial = range-true 1 (r .state .t) (r .initial) (both-right (state-ok (r .state)) (in-range 1 (r .state .t) (r .initial)) e);
+      allowed = decode-allowed (r .state) z k;
+      same = λ i. record { state = encode-decode (r .state) z k i; initial = r .initial };
+    }

@@ -1,0 +1,7 @@
+-- Laws of the record.
+pub mod Past
+pub mod Model
+pub mod Fill
+pub mod Sized
+pub mod Table
+pub mod Started

@@ -1,0 +1,57 @@
+-- The steps of the chain models: what each gives where its test holds, and where it does not.
+-- Assumes nothing.
+use Prim.Native.Nat.{ℕ, zero, suc}
+use mathlib.Core.Path.{_≡_, refl}
+use mathlib.Core.List.{List}
+use lib.ListN.{getD, set}
+use borrow.Author.Tests.{eq-eqb, ne-eqb}
+use Rattle.state.specs.declared.Thread.{Thread}
+use Rattle.state.specs.declared.Chains.{Chains}
+use Rattle.state.specs.declared.chain.Taken.the-variants as answer
+use Rattle.state.specs.Record.{thread-in}
+use Rattle.state.specs.Model.{next-of, status-in, queued-in, linked-to, last-from, taken, joined}
+
+module _ (ts : List Thread) where
+  pub last-none : (k : ℕ) → last-from ts 0 k ≡ k
+  unfolding last-from
+  last-none k = refl
+
+  pub last-stop : (fuel k : ℕ) → next-of ts k ≡ 0 → last-from ts fuel k ≡ k
+  unfolding last-from
+  last-stop zero k e = refl
+  last-stop (suc fuel) k e = simp (eq-eqb (next-of ts k) 0 e)
+
+  pub last-on : (fuel k : ℕ) → (next-of ts k ≡ 0 → ⊥) → last-from ts (suc fuel) k ≡ last-from ts fuel (next-of ts k)
+  unfolding last-from
+  last-on fuel k e = simp (ne-eqb (next-of ts k) 0 e)
+
+pub status-ready : status-in 0 ≡ 1
+status-ready = refl
+
+pub status-waiting : (q : ℕ) → (q ≡ 0 → ⊥) → status-in q ≡ 2
+status-waiting q e = simp (ne-eqb q 0 e)
+
+module _ (c : Chains) (q : ℕ) where
+  pub taken-none : getD (c .firsts) q 0 ≡ 0 → taken c q ≡ answer.Nothing
+  unfolding taken
+  taken-none e = simp (eq-eqb (getD (c .firsts) q 0) 0 e)
+
+  pub taken-some : (getD (c .firsts) q 0 ≡ 0 → ⊥) → taken c q ≡ answer.Thread (getD (c .firsts) q 0) (next-of (c .threads) (getD (c .firsts) q 0))
+  unfolding taken
+  taken-some e = simp (ne-eqb (getD (c .firsts) q 0) 0 e)
+
+  pub joined-none : (k : ℕ) → getD (c .firsts) q 0 ≡ 0
+      → joined c q k ≡ record { firsts = set (c .firsts) q k; threads = set (c .threads) k (queued-in q) }
+  unfolding joined
+  joined-none k e = simp (eq-eqb (getD (c .firsts) q 0) 0 e)
+
+  pub joined-some : (k : ℕ) → (getD (c .firsts) q 0 ≡ 0 → ⊥)
+      → joined c q k ≡
+      record {
+        firsts = c .firsts;
+        threads =
+            set (set (c .threads) k (queued-in q)) (last-from (c .threads) 32 (getD (c .firsts) q 0))
+            (linked-to k (thread-in (set (c .threads) k (queued-in q)) (last-from (c .threads) 32 (getD (c .firsts) q 0))));
+      }
+  unfolding joined
+  joined-some k e = simp (ne-eqb (getD (c .firsts) q 0) 0 e)

@@ -1,0 +1,32 @@
+-- The lengths of the record's arrays. A function has them of a record that it is handed, and of one that a call gives it.
+-- Assumes nothing.
+use mathlib.Core.Path.{_≡_, sym, _∙_}
+use mathlib.Core.List.{List}
+use lib.ListN.{length, length-map}
+use mir.Val.{Val}
+use denote.Shadow.{shadow}
+use denote.Struct.Declared.{row}
+use Rattle.state.specs.declared.State.{State}
+use Rattle.state.specs.declared.Session.{Session}
+use Rattle.state.proofs.State as state
+use Rattle.state.proofs.Session as session
+
+pub record Sized (r : State) : Type 0 where
+  pub processors : length (r .processors) ≡ 9
+  pub mutexes : length (r .mutexes) ≡ 9
+  pub firsts : length (r .chains .firsts) ≡ 9
+  pub threads : length (r .chains .threads) ≡ 33
+
+-- of a parameter `self`, the first of a function: `sized (c .good .0)`; of a call's result: `sized (c .f .ok)`
+pub sized : {r : State} {vs : List Val} → shadow (row state.the-type .own r vs) → Sized r
+sized {r} g =
+    let fields = g .1 .1 .1 .1 .1 .1 in
+    record {
+      processors = sym (length-map (r .processors) _) ∙ fields .1 .0 .1 .0 .1;
+      mutexes = sym (length-map (r .mutexes) _) ∙ fields .1 .1 .0 .1 .0 .1;
+      firsts = sym (length-map (r .chains .firsts) _) ∙ fields .0 .1 .1 .0 .1 .0 .1;
+      threads = sym (length-map (r .chains .threads) _) ∙ fields .0 .1 .1 .1 .0 .1 .0 .1;
+    }
+
+pub session-sized : {r : Session} {vs : List Val} → shadow (row session.the-type .own r vs) → Sized (r .state)
+session-sized {r} g = sized {r = r .state} (g .1 .1 .0)

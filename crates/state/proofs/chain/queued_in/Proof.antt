@@ -1,0 +1,13 @@
+-- `state::chain::queued_in` meets its contract.
+use borrow.Author.Tests.{eq-eqb, ne-eqb}
+use Rattle.state.proofs.chain.queued_in.Statement.{statement}
+use Rattle.state.proofs.chain.queued_in.Tie as tie
+
+returns : tie.Need-returns
+returns c = simp (eq-eqb _ _ (c .if1 .taken))
+
+returns-2 : tie.Need-returns-2
+returns-2 c = simp (ne-eqb _ _ (c .if1 .left))
+
+pub queued-in-spec : {M : Type 1} → statement M
+queued-in-spec = tie.close (tie.spec returns returns-2)

@@ -1,0 +1,143 @@
+-- What the code's reads and writes of a record compute: a model that only inner contracts cite; nobody needs to believe it.
+-- Assumes nothing.
+use Prim.Native.Nat.{ℕ, zero, suc, _+_}
+use mathlib.Core.List.{List}
+use lib.Dec.{eqb, leb, ltb}
+use lib.ListN.{getD, set, replicate}
+use Rattle.state.specs.declared.Thread.{Thread}
+use Rattle.state.specs.declared.Processor.{Processor}
+use Rattle.state.specs.declared.Mutex.{Mutex}
+use Rattle.state.specs.declared.Chains.{Chains}
+use Rattle.state.specs.declared.State.{State}
+use Rattle.state.specs.declared.chain.Taken.{Taken}
+use Rattle.state.specs.declared.chain.Taken.the-variants as answer
+use Rattle.state.specs.declared.chain.Taken.the-variants.{Nothing}
+use Rattle.state.specs.Record.{zero-thread, zero-mutex, zero-token, thread-in}
+use Rattle.reference.specs.Lists.{choose, in-range, tabulate}
+
+-- ---- the record with one part replaced
+
+abbrev pub with-processor : ℕ → Processor → State → State
+with-processor p r s =
+    record {
+      p = s .p;
+      t = s .t;
+      m = s .m;
+      applied = s .applied;
+      chains = s .chains;
+      processors = set (s .processors) p r;
+      mutexes = s .mutexes;
+    }
+
+abbrev pub with-mutex : ℕ → Mutex → State → State
+with-mutex m x s =
+    record {
+      p = s .p;
+      t = s .t;
+      m = s .m;
+      applied = s .applied;
+      chains = s .chains;
+      processors = s .processors;
+      mutexes = set (s .mutexes) m x;
+    }
+
+abbrev pub with-chains : Chains → State → State
+with-chains c s =
+    record {
+      p = s .p;
+      t = s .t;
+      m = s .m;
+      applied = s .applied;
+      chains = c;
+      processors = s .processors;
+      mutexes = s .mutexes;
+    }
+
+abbrev pub with-applied : ℕ → State → State
+with-applied n s =
+    record {
+      p = s .p;
+      t = s .t;
+      m = s .m;
+      applied = n;
+      chains = s .chains;
+      processors = s .processors;
+      mutexes = s .mutexes;
+    }
+
+-- ---- queues as chains
+
+abbrev pub next-of : List Thread → ℕ → ℕ
+next-of ts k = thread-in ts k .next
+
+-- the status of the threads of queue q: 1 in the ready queue, 2 in that of a mutex
+abbrev pub status-in : ℕ → ℕ
+status-in q = choose (eqb q 0) 1 2
+
+-- a thread of queue q that ends its chain
+abbrev pub queued-in : ℕ → Thread
+queued-in q = record { status = status-in q; holder = q; next = 0 }
+
+abbrev pub linked-to : ℕ → Thread → Thread
+linked-to k t = record { status = t .status; holder = t .holder; next = k }
+
+-- the thread at the end of the chain from k, within `fuel` links
+unfoldable pub last-from : List Thread → ℕ → ℕ → ℕ
+last-from ts zero k = k
+last-from ts (suc fuel) k = choose (eqb (next-of ts k) 0) k (last-from ts fuel (next-of ts k))
+
+-- the first of queue q, with the first of the chain that remains
+unfoldable pub taken : Chains → ℕ → Taken
+taken c q =
+    let k = getD (c .firsts) q 0 in
+    choose (eqb k 0) Nothing (answer.Thread k (next-of (c .threads) k))
+
+-- thread k leaves the front of queue q, whose chain then begins at `rest`, and is t
+unfoldable pub removed : Chains → ℕ → ℕ → ℕ → Thread → Chains
+removed c q k rest t = record { firsts = set (c .firsts) q rest; threads = set (c .threads) k t }
+
+-- thread k joins queue q's end
+unfoldable pub joined : Chains → ℕ → ℕ → Chains
+joined c q k =
+    let first = getD (c .firsts) q 0 in
+    let ts = set (c .threads) k (queued-in q) in
+    let last = last-from (c .threads) 32 first in
+    choose (eqb first 0)
+    (record { firsts = set (c .firsts) q k; threads = ts })
+    (record { firsts = c .firsts; threads = set ts last (linked-to k (thread-in ts last)) })
+
+-- thread k becomes t, in no queue
+unfoldable pub placed : Chains → ℕ → Thread → Chains
+placed c k t = record { firsts = c .firsts; threads = set (c .threads) k t }
+
+-- ---- the start state
+
+abbrev pub standing-at : ℕ → ℕ → Processor
+standing-at l k = record { position = l; current = k; transit = 0; mutex = 0; observed = zero-token; sequence = 0; answer = 0 }
+
+-- processor i of p, where threads 1 to b are created: at App with thread i, or at CI2 without one
+unfoldable pub first-processor : ℕ → ℕ → ℕ → Processor
+first-processor p b i = choose (in-range 1 p i) (choose (leb i b) (standing-at 0 i) (standing-at 1 0)) (standing-at 0 0)
+
+-- thread k of the b that are created: on processor k, or in the ready queue before thread k + 1
+unfoldable pub first-thread : ℕ → ℕ → ℕ → Thread
+first-thread p b k =
+    choose (in-range 1 b k)
+    (choose (leb k p) (record { status = 3; holder = k; next = 0 }) (record { status = 1; holder = 0; next = choose (ltb k b) (k + 1) 0 }))
+    zero-thread
+
+-- the first of the ready queue
+abbrev pub first-ready : ℕ → ℕ → ℕ
+first-ready p b = choose (ltb p b) (p + 1) 0
+
+unfoldable pub start-record : ℕ → ℕ → ℕ → ℕ → State
+start-record p t m b =
+    record {
+      p = p;
+      t = t;
+      m = m;
+      applied = 0;
+      chains = record { firsts = set (replicate 9 0) 0 (first-ready p b); threads = tabulate (first-thread p b) 0 33 };
+      processors = tabulate (first-processor p b) 0 9;
+      mutexes = replicate 9 zero-mutex;
+    }

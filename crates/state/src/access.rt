@@ -1,0 +1,120 @@
+// Reads and writes of the record's arrays at any index: past the end a read gives zero and a write does nothing.
+ghost use mathlib.Core.Path.{_≡_};
+ghost use lib.ListN.{set};
+ghost use Rattle.state.specs.Record.{processor-in, mutex-in, processor-of, mutex-of};
+ghost use Rattle.state.specs.Model.{with-processor, with-mutex, with-chains, with-applied};
+use crate::Chains;
+use crate::Mutex;
+use crate::Processor;
+use crate::State;
+use crate::Token;
+
+pub fn processor_at(processors: [Processor; 9], p: u8) -> Processor
+    ensures { λ r. ⌜ r ≡ processor-in processors p ⌝ }
+{
+    let i = p as usize;
+    if i < 9 {
+        processors[i]
+    } else {
+        Processor {
+            position: 0,
+            current: 0,
+            transit: 0,
+            mutex: 0,
+            observed: Token {
+                processor: 0,
+                sequence: 0,
+            },
+            sequence: 0,
+            answer: 0,
+        }
+    }
+}
+
+pub fn with_processor(processors: [Processor; 9], p: u8, r: Processor) -> [Processor; 9]
+    ensures { λ x. ⌜ x ≡ set processors p r ⌝ }
+{
+    let i = p as usize;
+    let mut next = processors;
+    if i < 9 {
+        next[i] = r;
+    }
+    next
+}
+
+pub fn mutex_at(mutexes: [Mutex; 9], m: u8) -> Mutex
+    ensures { λ r. ⌜ r ≡ mutex-in mutexes m ⌝ }
+{
+    let i = m as usize;
+    if i < 9 {
+        mutexes[i]
+    } else {
+        Mutex {
+            count: 0,
+            owner: 0,
+            token: Token {
+                processor: 0,
+                sequence: 0,
+            },
+        }
+    }
+}
+
+pub fn with_mutex(mutexes: [Mutex; 9], m: u8, x: Mutex) -> [Mutex; 9]
+    ensures { λ r. ⌜ r ≡ set mutexes m x ⌝ }
+{
+    let i = m as usize;
+    let mut next = mutexes;
+    if i < 9 {
+        next[i] = x;
+    }
+    next
+}
+
+impl State {
+    pub fn processor(self, p: u8) -> Processor
+        ensures { λ r. ⌜ r ≡ processor-of self p ⌝ }
+    {
+        let processors = self.processors;
+        processor_at(processors, p)
+    }
+
+    pub fn mutex(self, m: u8) -> Mutex
+        ensures { λ r. ⌜ r ≡ mutex-of self m ⌝ }
+    {
+        let mutexes = self.mutexes;
+        mutex_at(mutexes, m)
+    }
+
+    pub fn with_processor(mut self, p: u8, r: Processor) -> State
+        ensures { λ s. ⌜ s ≡ with-processor p r self ⌝ }
+    {
+        let processors = self.processors;
+        let next = with_processor(processors, p, r);
+        self.processors = next;
+        self
+    }
+
+    pub fn with_mutex(mut self, m: u8, x: Mutex) -> State
+        ensures { λ s. ⌜ s ≡ with-mutex m x self ⌝ }
+    {
+        let mutexes = self.mutexes;
+        let next = with_mutex(mutexes, m, x);
+        self.mutexes = next;
+        self
+    }
+
+    pub fn with_chains(mut self, chains: Chains) -> State
+        ensures { λ s. ⌜ s ≡ with-chains chains self ⌝ }
+    {
+        self.chains = chains;
+        self
+    }
+
+    pub fn with_applied(mut self, n: u16) -> State
+        ensures { λ s. ⌜ s ≡ with-applied n self ⌝ }
+    {
+        self.applied = n;
+        self
+    }
+}
