@@ -4,5 +4,6 @@ pub mod Chains
 pub mod Kept
 pub mod Encode
 pub mod Decode
+pub mod Regular
 pub mod Reached
 pub mod Unique

@@ -1,0 +1,123 @@
+-- The code refuses a move on the record of a state for the reasons for which the reference machine does, and sees a broken rule where it does.
+-- Assumes nothing.
+use Prim.Native.Nat.{ℕ, _≤_}
+use mathlib.Core.Bool.{Bool, true, false, _&&_, _||_, not, true≢false}
+use mathlib.Core.List.{List, [], _∷_}
+use mathlib.Core.Path.{_≡_, refl, ap, sym, _∙_}
+use native.Mathlib.Numerals.{add-one}
+use lib.Dec.{eqb, leb, ltb}
+use borrow.Author.Tests.{leb-true, not-false}
+use Rattle.state.specs.declared.Thread.{Thread}
+use Rattle.state.specs.declared.Processor as declared
+use Rattle.state.specs.Record.{thread-of, processor-of}
+use Rattle.state.specs.Association.{encode}
+use Rattle.step.specs.declared.View as code
+use Rattle.step.specs.Model.{cause-of, operand-right, refusal-here, nothing-there, breaks-at, step-breaks-of, view-of}
+use Rattle.reference.specs.Refusal.{refuse}
+use Rattle.reference.specs.Lists.{in-range}
+use Rattle.reference.specs.State.{State, Processor, Line, L1, L9, TL3, U1, H5, Life, new, live, terminated, same-line, same-life, processor-at, mutex-at, life-at}
+use Rattle.reference.specs.Step.{Move, action-of, view}
+use Rattle.reference.specs.Cause.{operand-fits, is-go, refused-here, cause}
+use Rattle.reference.specs.Break.{is-empty, line-breaks, step-breaks}
+use Rattle.reference.specs.Snapshot.{Entry, thread-entry}
+use Rattle.reference.specs.Safe.{In}
+use Rattle.reference.proofs.Tests.{range-true}
+use Rattle.reference.proofs.Same.{same-line-exact}
+use Rattle.reference.proofs.Legal.{legal}
+use Rattle.association.proofs.Spots.{Spot, AtSpot, entry-for, spot-entry, spot-of}
+use Rattle.association.proofs.Shown.{Fits, queue-of, read-processor, read-mutex, read-entry, read-taken}
+use Rattle.shown.proofs.Regular.{Registers, Regular, regular-fits}
+use Rattle.agreement.proofs.View.{found, seen, by-action}
+
+-- what comes later matters only where this test lets it
+later : (b : Bool) (n : ℕ) {x y : ℕ} → (b ≡ false → x ≡ y) → refuse b n x ≡ refuse b n y
+later true n h = refl
+later false n h = h refl
+
+and-later : (a : Bool) {b c : Bool} → (a ≡ true → b ≡ c) → a && b ≡ a && c
+and-later true h = h refl
+and-later false h = refl
+
+-- ---- the causes
+
+module _ (s : State) (h : Fits s) where
+  -- a thread is new where its status is 0
+  new-status : (k : ℕ) → In (s .T) k → eqb (thread-of (encode s) k .status) 0 ≡ same-life (life-at s k) new
+  new-status k i = ap (λ (t : Thread). eqb (t .status) 0) (read-entry s h k i) ∙ by (life-at s k) refl
+    where
+      at-spot : (x : Spot) → AtSpot s k x → eqb (thread-entry s k .status) 0 ≡ eqb (entry-for s k x .status) 0
+      at-spot x a = ap (λ (e : Entry). eqb (e .status) 0) (spot-entry s (h .placed) k i x a)
+
+      not-new : (x : Spot) → AtSpot s k x → life-at s k ≡ live → eqb (entry-for s k x .status) 0 ≡ false
+      not-new Spot.ready a e = refl
+      not-new (Spot.waiting m) a e = refl
+      not-new (Spot.current p) a e = refl
+      not-new (Spot.transit p) a e = refl
+      not-new Spot.new a e = absurd (true≢false (ap (λ (l : Life). same-life l live) (sym e ∙ a)))
+      not-new Spot.terminated a e = refl
+
+      by : (l : Life) → life-at s k ≡ l → eqb (thread-entry s k .status) 0 ≡ same-life l new
+      by new e = at-spot Spot.new e
+      by live e = let x = spot-of s (h .placed) k i in at-spot (x .0) (x .1) ∙ not-new (x .0) (x .1) e
+      by terminated e = at-spot Spot.terminated e
+
+  operands : (o n : ℕ) → n ≤ 6 → operand-right (encode s) n o ≡ operand-fits s (action-of n) o
+  unfolding encode
+  operands o = by-action (λ n a. operand-right (encode s) n o ≡ operand-fits s a o) refl refl refl refl refl refl refl
+
+  refusals : (p o n : ℕ) → n ≤ 6 → operand-fits s (action-of n) o ≡ true → refusal-here (encode s) p n o ≡ refused-here s p (action-of n) o
+  refusals p o =
+      by-action (λ n a. operand-fits s a o ≡ true → refusal-here (encode s) p n o ≡ refused-here s p a o)
+      (λ f. rw (read-processor s h p)) (λ f. rw (read-processor s h p)) (λ f. rw (read-processor s h p)) (λ f. rw (read-processor s h p, read-mutex s h o))
+      (λ f. rw (read-processor s h p)) (λ f. rw (read-processor s h p)) (λ f. rw (read-processor s h p, new-status o (range-true 1 (s .T) o f)))
+
+  pub cause-shows : (a : Move) → cause-of (encode s) (a .processor) (a .action) (a .operand) ≡ cause s a
+  unfolding cause-of cause encode
+  cause-shows a = later (not (in-range 1 (s .P) (a .processor))) 2 (λ e. by (leb (a .action) 6) refl)
+    where
+      by : (b : Bool) → leb (a .action) 6 ≡ b →
+          refuse (not (b && operand-right (encode s) (a .action) (a .operand))) 3 (refuse (leb 4000 (s .applied)) 8 (refusal-here (encode s) (a .processor) (a .action) (a .operand))) ≡
+          refuse (not (b && operand-fits s (action-of (a .action)) (a .operand))) 3 (refuse (leb 4000 (s .applied)) 8 (refused-here s (a .processor) (action-of (a .action)) (a .operand)))
+      by false e = refl
+      by true e =
+          let l : a .action ≤ 6 = leb-true (a .action) 6 e in
+          rw (operands (a .operand) (a .action) l)
+          (later (not (operand-fits s (action-of (a .action)) (a .operand))) 3
+          (λ f. ap (refuse (leb 4000 (s .applied)) 8) (refusals (a .processor) (a .operand) (a .action) l (not-false _ f))))
+
+  -- ---- 15 at a step
+
+  pub view-shows : (p m : ℕ) → view-of (encode s) p m ≡ seen s p m
+  view-shows p m =
+      λ i. record { number = p; proc = read-processor s h p i; mutex = read-mutex s h m i; queue = read-taken s h m i; ready = read-taken s h 0 i }
+
+  pub mutex-shows : (p : ℕ) → processor-of (encode s) p .mutex ≡ processor-at s p .mutex
+  mutex-shows p = ap (λ (r : declared.Processor). r .mutex) (read-processor s h p)
+
+nothing-empty : (q : List ℕ) → nothing-there (found q) ≡ is-empty q
+nothing-empty [] = refl
+nothing-empty (x ∷ q) = refl
+
+module _ (s : State) (g : Regular s) where
+  breaks-agree : (p : ℕ) → In (s .P) p → breaks-at (s .T) (seen s p (processor-at s p .mutex)) ≡ line-breaks (s .T) (processor-at s p .position) (view s p (processor-at s p .mutex))
+  breaks-agree p i =
+      let r : Processor = processor-at s p in
+      let m : ℕ = r .mutex in
+      let l : Line = r .position in
+      rw (add-one (s .T))
+      (ap
+      (λ (b : Bool). same-line l U1 && eqb (mutex-at s m .count) 0 || (same-line l L1 || same-line l TL3) && ltb (s .T) (mutex-at s m .count) || same-line l H5 && leb 4000 (r .sequence) || b)
+      (and-later (same-line l L9)
+      (λ e.
+      let t : Registers (s .P) (s .T) (s .M) L9 r = rw (same-line-exact .only l L9 e) at (g .registers p i) in
+      ap (λ (q : List ℕ). nothing-there (found q)) (queue-of s m (t .mutex-low)) ∙ nothing-empty (mutex-at s m .queue))))
+
+  pub breaks-show : (a : Move) → cause s a ≡ 0 → step-breaks-of (encode s) (a .processor) (a .action) ≡ step-breaks s a
+  unfolding step-breaks-of step-breaks encode
+  breaks-show a e =
+      let l = legal s a e in
+      let f = regular-fits s g in
+      ap (λ (v : code.View). eqb (a .action) 0 && breaks-at (s .T) v) (ap (view-of (encode s) (a .processor)) (mutex-shows s f (a .processor)) ∙ view-shows s f (a .processor) _) ∙
+      ap (λ (b : Bool). eqb (a .action) 0 && b) (breaks-agree (a .processor) (l .processor)) ∙
+      ap (λ (b : Bool). b && line-breaks (s .T) (processor-at s (a .processor) .position) (view s (a .processor) (processor-at s (a .processor) .mutex)))
+      (by-action (λ n x. eqb n 0 ≡ is-go x) refl refl refl refl refl refl refl (a .action) (l .action))

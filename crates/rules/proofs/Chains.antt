@@ -1,0 +1,216 @@
+-- The chain check is rule 13: the bits set are the threads met so far, and a thread is met twice exactly if its bit is set.
+-- Assumes nothing.
+use Prim.Native.Nat.{ℕ, zero, suc, _+_, _≤_, _<_}
+use mathlib.Core.Path.{_≡_, refl, sym, _∙_}
+use mathlib.Core.Bool.{Bool, true, false, _&&_, _||_, not}
+use mathlib.Core.List.{List, [], _∷_}
+use mathlib.Core.Logic.{⊎-elim}
+use native.Mathlib.Decide.{decLe}
+use native.Mathlib.Omega.{arith}
+use borrow.Author.Tests.{eqb-true, eq-eqb, ne-eqb, not-true}
+use lib.Dec.{eqb, eqb·suc-zero}
+use Rattle.reference.specs.Lists.{choose, in-range}
+use Rattle.reference.specs.Snapshot.{stands-in}
+use Rattle.reference.proofs.Tests.{both, both-left, both-right, range-true, true-range}
+use Rattle.state.specs.declared.Thread.{Thread}
+use Rattle.state.specs.Record.{chain}
+use Rattle.state.specs.Rules.{each, every, no-twice, placed-in, met, chain-ok, chains-in}
+use Rattle.rules.specs.declared.chain.Walked.{Walked}
+use Rattle.rules.specs.Walk.{has-bit, with-bit, walked, walk-from, walk-queues, queued, none-missed}
+use Rattle.rules.proofs.Bits.{has-none, has-with}
+use Rattle.rules.proofs.Each.{each-at, each-all}
+use Rattle.rules.proofs.Logic.{either, either-left, either-right, implied, implies, never, refuted, same-tests}
+use Rattle.rules.proofs.Members.{stands-none, stands-cons, every-at, push, push-stands, Clean, clean-none, clean-first, clean-rest, clean-cons}
+
+-- the set bits of a number are the members of a list
+abbrev pub Bits : ℕ → List ℕ → Type 0
+Bits met l = (j : ℕ) → has-bit met j ≡ stands-in j l
+
+pub bits-none : Bits 0 []
+bits-none j = has-none j ∙ sym (stands-none j)
+
+pub bits-with : (met k : ℕ) (l : List ℕ) → k < 64 → Bits met l → Bits (with-bit met k) (k ∷ l)
+bits-with met k l h b j = has-with met k j h ∙ rw (b j) (sym (stands-cons j k l))
+
+-- a thread is placed in one queue at most
+pub placed-once : (x : Thread) (q r : ℕ) → placed-in x q ≡ true → placed-in x r ≡ true → q ≡ r
+placed-once x q r h g =
+    sym (eqb-true (x .holder) q (both-right (eqb (x .status) (choose (eqb q 0) 1 2)) (eqb (x .holder) q) h)) ∙
+    eqb-true (x .holder) r (both-right (eqb (x .status) (choose (eqb r 0) 1 2)) (eqb (x .holder) r) g)
+
+-- to be placed in one of the queues 0 to m, and to be placed in a queue of that number
+pub placed-queued : (m q : ℕ) (x : Thread) → q ≤ m → placed-in x q ≡ true → queued m x ≡ true
+placed-queued m zero x h e = either-left (eqb (x .status) 1 && eqb (x .holder) 0) (eqb (x .status) 2 && in-range 1 m (x .holder)) e
+placed-queued m (suc q) x h e =
+    let f : eqb (x .status) 2 && eqb (x .holder) (suc q) ≡ true = rw (eqb·suc-zero q) at e in
+    let g : x .holder ≡ suc q = eqb-true (x .holder) (suc q) (both-right (eqb (x .status) 2) (eqb (x .holder) (suc q)) f) in
+    either-right (eqb (x .status) 1 && eqb (x .holder) 0) (eqb (x .status) 2 && in-range 1 m (x .holder))
+    (both (both-left (eqb (x .status) 2) (eqb (x .holder) (suc q)) f) (true-range 1 m (x .holder) (omega arith) (omega arith)))
+
+pub queued-placed : (m : ℕ) (x : Thread) → queued m x ≡ true → (q : ℕ) × (q ≤ m) × (placed-in x q ≡ true)
+queued-placed m x h =
+    ⊎-elim (λ e. (0, omega arith, e)) there
+    (either (eqb (x .status) 1 && eqb (x .holder) 0) (eqb (x .status) 2 && in-range 1 m (x .holder)) h)
+  where
+    there : eqb (x .status) 2 && in-range 1 m (x .holder) ≡ true → (q : ℕ) × (q ≤ m) × (placed-in x q ≡ true)
+    there e =
+        let r = range-true 1 m (x .holder) (both-right (eqb (x .status) 2) (in-range 1 m (x .holder)) e) in
+        let z : eqb (x .holder) 0 ≡ false = ne-eqb (x .holder) 0 (λ i. omega arith) in
+        (x .holder, r .1, rw z (both (both-left (eqb (x .status) 2) (in-range 1 m (x .holder)) e) (eq-eqb (x .holder) (x .holder) refl)))
+
+module _ (thread : ℕ → Thread) (small : (k q : ℕ) → placed-in (thread k) q ≡ true → k < 64) where
+  abbrev placed : ℕ → ℕ → Bool
+  placed q k = placed-in (thread k) q
+
+  -- ---- one chain
+
+  step-true : (q k met : ℕ) (l c : List ℕ) (w : Walked) (x : Bool) → placed q k && not (has-bit met k) ≡ x → Bits met l
+      → (Bits (with-bit met k) (k ∷ l) → w .ok ≡ true → Clean (placed q) (k ∷ l) c × Bits (w .met) (push c (k ∷ l)))
+      → choose x w (walked false met) .ok ≡ true → Clean (placed q) l (k ∷ c) × Bits (choose x w (walked false met) .met) (push (k ∷ c) l)
+  unfolding push
+  step-true q k met l c w true h b rest e =
+      let p : placed q k ≡ true = both-left (placed q k) (not (has-bit met k)) h in
+      let f : has-bit met k ≡ false = not-true (has-bit met k) (both-right (placed q k) (not (has-bit met k)) h) in
+      let r = rest (bits-with met k l (small k q p) b) e in
+      (clean-cons (placed q) l k c p (sym (b k) ∙ f) (r .0), r .1)
+  step-true q k met l c w false h b rest e = never false refl e
+
+  -- a walk that says ok met a clean chain, and set its members' bits
+  pub walk-true : (q fuel k met : ℕ) (l : List ℕ) → Bits met l → walk-from thread q fuel k met .ok ≡ true
+      → Clean (placed q) l (chain thread fuel k) × Bits (walk-from thread q fuel k met .met) (push (chain thread fuel k) l)
+  unfolding chain walk-from push
+  walk-true q zero k met l b e = (clean-none (placed q) l, b)
+  walk-true q (suc fuel) zero met l b e = (clean-none (placed q) l, b)
+  walk-true q (suc fuel) (suc k) met l b e =
+      step-true q (suc k) met l (chain thread fuel (thread (suc k) .next)) (walk-from thread q fuel (thread (suc k) .next) (with-bit met (suc k))) (placed q (suc k) && not (has-bit met (suc k))) refl b
+      (walk-true q fuel (thread (suc k) .next) (with-bit met (suc k)) (suc k ∷ l)) e
+
+  pub walk-clean : (q fuel k met : ℕ) (l : List ℕ) → Bits met l → Clean (placed q) l (chain thread fuel k) → walk-from thread q fuel k met .ok ≡ true
+  unfolding chain walk-from
+  walk-clean q zero k met l b h = refl
+  walk-clean q (suc fuel) zero met l b h = refl
+  walk-clean q (suc fuel) (suc k) met l b h =
+      let s = clean-first (placed q) l (suc k) (chain thread fuel (thread (suc k) .next)) h in
+      let f : has-bit met (suc k) ≡ false = b (suc k) ∙ s .1 in
+      rw (s .0, f)
+      (walk-clean q fuel (thread (suc k) .next) (with-bit met (suc k)) (suc k ∷ l) (bits-with met (suc k) l (small (suc k) q (s .0)) b)
+      (clean-rest (placed q) l (suc k) (chain thread fuel (thread (suc k) .next)) h))
+
+  -- ---- all chains
+
+  module _ (first : ℕ → ℕ) where
+    abbrev met-in : ℕ → List ℕ
+    met-in q = chain thread 33 (first q)
+
+    -- the threads met in the queues 0 to n
+    unfoldable pub met-by : ℕ → List ℕ
+    met-by zero = push (met-in zero) []
+    met-by (suc n) = push (met-in (suc n)) (met-by n)
+
+    by-in : (n j : ℕ) → stands-in j (met-by n) ≡ true → (q : ℕ) × (q ≤ n) × (stands-in j (met-in q) ≡ true)
+    unfolding met-by
+    by-in zero j h =
+        ⊎-elim (λ s. (0, omega arith, s)) (λ s. never (stands-in j []) (stands-none j) s)
+        (either (stands-in j (met-in 0)) (stands-in j []) (sym (push-stands j (met-in 0) []) ∙ h))
+    by-in (suc n) j h =
+        ⊎-elim (λ s. (suc n, omega arith, s)) (λ s. let r = by-in n j s in (r .0, omega arith, r .2))
+        (either (stands-in j (met-in (suc n))) (stands-in j (met-by n)) (sym (push-stands j (met-in (suc n)) (met-by n)) ∙ h))
+
+    in-by : (n q j : ℕ) → q ≤ n → stands-in j (met-in q) ≡ true → stands-in j (met-by n) ≡ true
+    unfolding met-by
+    in-by zero zero j h s = push-stands j (met-in 0) [] ∙ either-left (stands-in j (met-in 0)) (stands-in j []) s
+    in-by zero (suc q) j h s = absurd (omega arith)
+    in-by (suc n) q j h s = push-stands j (met-in (suc n)) (met-by n) ∙ go (decLe q n) (in-by n q j)
+      where
+        go : Dec (q ≤ n) → (q ≤ n → stands-in j (met-in q) ≡ true → stands-in j (met-by n) ≡ true) → stands-in j (met-in (suc n)) || stands-in j (met-by n) ≡ true
+        go (yes p) rest = either-right (stands-in j (met-in (suc n))) (stands-in j (met-by n)) (rest p s)
+        go (no p) rest = let e : q ≡ suc n = omega arith in either-left (stands-in j (met-in (suc n))) (stands-in j (met-by n)) (rw e at s)
+
+    -- the chain of queue q meets none twice, and none that is not placed there
+    abbrev Good : ℕ → Type 0
+    Good q = Clean (placed q) [] (met-in q)
+
+    up-to : (P : ℕ → Type 0) (n : ℕ) → ((q : ℕ) → q ≤ n → P q) → P (suc n) → (q : ℕ) → q ≤ suc n → P q
+    up-to P n f p q h = go (decLe q n)
+      where
+        go : Dec (q ≤ n) → P q
+        go (yes l) = f q l
+        go (no l) = let e : q ≡ suc n = omega arith in rw e p
+
+    apart-by : (n : ℕ) → ((q : ℕ) → q ≤ n → Good q) → Good (suc n) → Clean (placed (suc n)) (met-by n) (met-in (suc n))
+    apart-by n f g =
+        record {
+          placed = g .placed;
+          once = g .once;
+          apart = λ j s. refuted (stands-in j (met-by n)) (λ i.
+              let r = by-in n j i in
+              let e : r .0 ≡ suc n = placed-once (thread j) (r .0) (suc n) (every-at (placed (r .0)) (met-in (r .0)) (f (r .0) (r .1) .placed) j (r .2)) (every-at (placed (suc n)) (met-in (suc n)) (g .placed) j s) in
+              omega arith);
+        }
+
+    -- walks that say ok met clean chains, and set the bits of the threads met
+    pub queues-true : (n : ℕ) → walk-queues thread first n .ok ≡ true → ((q : ℕ) → q ≤ n → Good q) × Bits (walk-queues thread first n .met) (met-by n)
+    unfolding walk-queues met-by
+    queues-true zero e =
+        let r = walk-true 0 33 (first 0) 0 [] bits-none e in
+        (λ q h. let z : q ≡ 0 = omega arith in rw z (r .0), r .1)
+    queues-true (suc n) e =
+        let w = walk-queues thread first n in
+        let x = walk-from thread (suc n) 33 (first (suc n)) (w .met) in
+        let i = queues-true n (both-left (w .ok) (x .ok) e) in
+        let r = walk-true (suc n) 33 (first (suc n)) (w .met) (met-by n) (i .1) (both-right (w .ok) (x .ok) e) in
+        (up-to Good n (i .0) (record { placed = r .0 .placed; once = r .0 .once; apart = λ j s. stands-none j }), r .1)
+
+    pub queues-good : (n : ℕ) → ((q : ℕ) → q ≤ n → Good q) → walk-queues thread first n .ok ≡ true
+    unfolding walk-queues
+    queues-good zero f = walk-clean 0 33 (first 0) 0 [] bits-none (f 0 (omega arith))
+    queues-good (suc n) f =
+        let w = walk-queues thread first n in
+        let i : w .ok ≡ true = queues-good n (λ q h. f q (omega arith)) in
+        both i (walk-clean (suc n) 33 (first (suc n)) (w .met) (met-by n) (queues-true n i .1) (apart-by n (λ q h. f q (omega arith)) (f (suc n) (omega arith))))
+
+    -- ---- the rule
+
+    module _ (m t : ℕ) where
+      abbrev walks : Walked
+      walks = walk-queues thread first m
+
+      -- queue q misses thread k in no case
+      abbrev kept : ℕ → ℕ → Bool
+      kept q k = not (placed q k) || stands-in k (met-in q)
+
+      abbrev found : ℕ → Bool
+      found k = not (queued m (thread k)) || has-bit (walks .met) k
+
+      -- from the check to the rule at queue q
+      to-rule : walks .ok ≡ true → none-missed thread (walks .met) m t ≡ true → (q : ℕ) → q ≤ m → chain-ok thread t q (first q) ≡ true
+      unfolding chain-ok
+      to-rule e n q h =
+          let r = queues-true m e in
+          let g : Good q = r .0 q h in
+          both (both (g .once) (g .placed))
+          (each-all (kept q) 1 t (λ k lo hi. implies (placed q k) (stands-in k (met-in q)) (λ p.
+          let b : has-bit (walks .met) k ≡ true = implied (queued m (thread k)) (has-bit (walks .met) k) (each-at found 1 t n k lo hi) (placed-queued m q (thread k) h p) in
+          let s = by-in m k (sym (r .1 k) ∙ b) in
+          let i : s .0 ≡ q = placed-once (thread k) (s .0) q (every-at (placed (s .0)) (met-in (s .0)) (r .0 (s .0) (s .1) .placed) k (s .2)) p in
+          rw i at (s .2))))
+
+      -- and back, from the rule at each queue
+      from-rule : ((q : ℕ) → q ≤ m → chain-ok thread t q (first q) ≡ true) → walks .ok && none-missed thread (walks .met) m t ≡ true
+      unfolding chain-ok
+      from-rule f =
+          let e : walks .ok ≡ true = queues-good m (λ q h. let o = both-left (no-twice (met-in q) && every (placed q) (met-in q)) (each (kept q) 1 t) (f q h) in
+          record { placed = both-right (no-twice (met-in q)) (every (placed q) (met-in q)) o; once = both-left (no-twice (met-in q)) (every (placed q) (met-in q)) o; apart = λ j s. stands-none j })
+          in
+          both e (each-all found 1 t (λ k lo hi. implies (queued m (thread k)) (has-bit (walks .met) k) (λ p.
+          let r = queued-placed m (thread k) p in
+          let o = both-right (no-twice (met-in (r .0)) && every (placed (r .0)) (met-in (r .0))) (each (kept (r .0)) 1 t) (f (r .0) (r .1)) in
+          let s : stands-in k (met-in (r .0)) ≡ true = implied (placed (r .0) k) (stands-in k (met-in (r .0))) (each-at (kept (r .0)) 1 t o k lo hi) (r .2) in
+          queues-true m e .1 k ∙ in-by m (r .0) k (r .1) s)))
+
+      -- the check is the rule, on all inputs
+      pub check-is-rule : walks .ok && none-missed thread (walks .met) m t ≡ chains-in thread first m t
+      check-is-rule =
+          same-tests (walks .ok && none-missed thread (walks .met) m t) (chains-in thread first m t)
+          (λ e. each-all (λ q. chain-ok thread t q (first q)) 0 (m + 1) (λ q lo hi. to-rule (both-left (walks .ok) (none-missed thread (walks .met) m t) e) (both-right (walks .ok) (none-missed thread (walks .met) m t) e) q (omega arith)))
+          (λ e. from-rule (λ q h. each-at (λ i. chain-ok thread t i (first i)) 0 (m + 1) e q (omega arith) (omega arith)))

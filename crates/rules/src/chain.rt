@@ -1,0 +1,155 @@
+// Rule 13: the queues as chains, over the thread records as bytes.
+ghost use mathlib.Core.Path.{_≡_};
+ghost use lib.ListN.{getD};
+ghost use Rattle.state.specs.Record.{thread-in};
+ghost use Rattle.state.specs.Rules.{placed-in, chains-in};
+ghost use Rattle.rules.specs.Bytes.{thread-in-bytes};
+ghost use Rattle.rules.specs.Walk.{has-bit, with-bit, walk-from, walk-queues, queued, none-missed, record-bytes};
+use crate::read;
+use state::Thread;
+
+// Whether all is well so far, and the threads met so far: bit k for thread k.
+pub(crate) struct Walked {
+    pub ok: bool,
+    pub met: u64,
+}
+
+pub(crate) fn has_bit(met: u64, k: u8) -> bool
+    ensures { λ r. ⌜ r ≡ has-bit met k ⌝ }
+{
+    let i = k as u64;
+    if i < 64 { (met >> i) % 2 == 1 } else { false }
+}
+
+pub(crate) fn with_bit(met: u64, k: u8) -> u64
+    ensures { λ r. ⌜ r ≡ with-bit met k ⌝ }
+{
+    let i = k as u64;
+    if i < 64 { met | (1u64 << i) } else { met }
+}
+
+pub(crate) fn thread_in_bytes(threads: &[u8], k: u8) -> Thread
+    ensures { λ r. ⌜ r ≡ thread-in-bytes (now (threads .entry)) k ⌝ }
+{
+    let there = (1 <= k) & (k <= 32);
+    if there {
+        let at = 4 * ((k as usize) - 1);
+        Thread {
+            status: read::byte_in(threads, at),
+            holder: read::byte_in(threads, at + 1),
+            next: read::byte_in(threads, at + 2),
+        }
+    } else {
+        Thread {
+            status: 0,
+            holder: 0,
+            next: 0,
+        }
+    }
+}
+
+// The thread is placed in queue q.
+pub(crate) fn placed_in(x: Thread, q: u8) -> bool
+    ensures { λ r. ⌜ r ≡ placed-in x q ⌝ }
+{
+    if q == 0 {
+        (x.status == 1) & (x.holder == q)
+    } else {
+        (x.status == 2) & (x.holder == q)
+    }
+}
+
+// The chain of queue q, after the threads met before: not ok where it meets one a second time, or one not placed there.
+// It takes 33 steps at most: of 32 threads one is then met a second time.
+pub(crate) fn walk(threads: &[u8], q: u8, first: u8, before: u64) -> Walked
+    ensures { λ r. ⌜ r ≡ walk-from (thread-in-bytes (now (threads .entry))) q 33 first before ⌝ }
+{
+    let mut met = before;
+    let mut at = first;
+    let mut left: u8 = 33;
+    while 0 < left {
+        if at == 0 {
+            return Walked { ok: true, met };
+        }
+        let x = thread_in_bytes(threads, at);
+        let fits = placed_in(x, q) & !has_bit(met, at);
+        if fits {
+            met = with_bit(met, at);
+            at = x.next;
+            left -= 1;
+        } else {
+            return Walked { ok: false, met };
+        }
+    }
+    Walked { ok: true, met }
+}
+
+// The chains of queue 0 and of the queue of each of m mutexes.
+pub(crate) fn walk_queues(threads: &[u8], firsts: [u8; 9], m: u8) -> Walked
+    ensures { λ r. ⌜ r ≡ walk-queues (thread-in-bytes (now (threads .entry))) (λ q. getD firsts q 0) m ⌝ }
+{
+    let ready = walk(threads, 0, read::first_in(firsts, 0), 0);
+    let mut ok = ready.ok;
+    let mut met = ready.met;
+    let mut q: u8 = 0;
+    while q < m {
+        q += 1;
+        let w = walk(threads, q, read::first_in(firsts, q), met);
+        ok = ok & w.ok;
+        met = w.met;
+    }
+    Walked { ok, met }
+}
+
+// The thread is placed in one of the queues 0 to m.
+pub(crate) fn queued(m: u8, x: Thread) -> bool
+    ensures { λ r. ⌜ r ≡ queued m x ⌝ }
+{
+    ((x.status == 1) & (x.holder == 0)) | ((x.status == 2) & ((1 <= x.holder) & (x.holder <= m)))
+}
+
+// Each of the threads 1 to t that is placed in a queue was met.
+pub(crate) fn none_missed(threads: &[u8], met: u64, m: u8, t: u8) -> bool
+    ensures { λ r. ⌜ r ≡ none-missed (thread-in-bytes (now (threads .entry))) met m t ⌝ }
+{
+    let mut ok = true;
+    let mut k: u8 = 0;
+    while k < t {
+        k += 1;
+        ok = ok & (!queued(m, thread_in_bytes(threads, k)) | has_bit(met, k));
+    }
+    ok
+}
+
+// Rule 13 over the thread records' bytes: no chain meets a thread twice or one not placed there, and none placed there is missed.
+pub fn chains_ok(threads: &[u8], firsts: [u8; 9], m: u8, t: u8) -> bool
+    ensures { λ r. ⌜ r ≡ chains-in (thread-in-bytes (now (threads .entry))) (λ q. getD firsts q 0) m t ⌝ }
+{
+    let w = walk_queues(threads, firsts, m);
+    w.ok & none_missed(threads, w.met, m, t)
+}
+
+// A record's threads 1 to 32 as a picture has them.
+pub(crate) fn record_bytes(threads: [Thread; 33]) -> [u8; 128]
+    ensures { λ r. ⌜ r ≡ record-bytes threads 32 ⌝ }
+{
+    let mut bytes = [0u8; 128];
+    let mut k: usize = 0;
+    while k < 32 {
+        let x = threads[k + 1];
+        let at = 4 * k;
+        bytes[at] = x.status;
+        bytes[at + 1] = x.holder;
+        bytes[at + 2] = x.next;
+        k += 1;
+    }
+    bytes
+}
+
+// Rule 13 of a record.
+pub(crate) fn record_chains_ok(threads: [Thread; 33], firsts: [u8; 9], m: u8, t: u8) -> bool
+    ensures { λ r. ⌜ r ≡ chains-in (thread-in threads) (λ q. getD firsts q 0) m t ⌝ }
+{
+    let bytes = record_bytes(threads);
+    chains_ok(&bytes, firsts, m, t)
+}

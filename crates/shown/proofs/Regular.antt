@@ -1,0 +1,315 @@
+-- The rules of an allowed state as inequalities on its registers, mutexes and queues: regular is what is allowed, in the form that arithmetic reads.
+-- Assumes nothing.
+use Prim.Native.Nat.{ℕ, zero, suc, _+_, _*_, _≤_}
+use mathlib.Core.Bool.{Bool, true, false, _&&_, _||_}
+use mathlib.Core.List.{List, [], _∷_}
+use mathlib.Core.Path.{_≡_, refl, ap}
+use native.Mathlib.Omega.{arith}
+use lib.Dec.{eqb, ltb, leb}
+use borrow.Author.Tests.{leb-true, le-leb, lt-ltb, ltb-true, eq-eqb, eqb-true, ne-eqb}
+use Rattle.state.specs.declared.Token.{Token}
+use Rattle.state.specs.declared.Processor.{Processor}
+use Rattle.state.specs.Record.{thread-of, processor-of, mutex-of, first-of}
+use Rattle.state.specs.Association.{encode, queue-at, thread-record, token-record, processor-record}
+use Rattle.state.specs.Rules.{every, register-ok, token-ok, processor-ok, mutex-ok, thread-ok}
+use Rattle.state.specs.Allowed.{Allowed}
+use Rattle.reference.specs.Lists.{choose, in-range, sum}
+use Rattle.reference.specs.State as reference
+use Rattle.reference.specs.State.{Line, App, CI2, CI3, L1, L3, L4, L6, L7, L8, L9, L10, TL1, GT1, GT3, TL3, U1, H2, H3, H5, H6, H8, Y1, Y2, Y3, C2, Row, row, processor-at, mutex-at}
+use Rattle.reference.specs.Snapshot.{first, behind}
+use Rattle.reference.specs.Safe.{In}
+use Rattle.reference.proofs.Tests.{both, both-left, both-right, _and_, range-true, true-range}
+use Rattle.reference.proofs.Same.{line-number}
+use Rattle.reference.proofs.Sums.{some, some-le, some-pos}
+use Rattle.reference.proofs.Local.{out, out-in, in-out}
+use Rattle.association.proofs.Spots.{Spot, AtSpot, entry-for, Placed, allowed-placed, spot-entry, spot-of}
+use Rattle.association.proofs.Shown.{Fits, allowed-fits, read-processor, read-mutex, read-first, read-entry}
+use Rattle.shown.proofs.Kept.{Fields, say-fields, fields-say}
+
+-- the registers of a processor at line l: in 1 .. their bound where the line's row has 1, else 0
+pub record Registers (P T M : ℕ) (l : Line) (r : reference.Processor) : Type 0 where
+  pub current-low : row l .current ≤ r .current
+  pub current-high : r .current ≤ T * row l .current
+  pub transit-low : row l .transit ≤ r .transit
+  pub transit-high : r .transit ≤ T * row l .transit
+  pub mutex-low : row l .mutex ≤ r .mutex
+  pub mutex-high : r .mutex ≤ M * row l .mutex
+  pub mutex-most : r .mutex ≤ M
+  pub observed-low : row l .observed ≤ r .observed .processor
+  pub observed-high : r .observed .processor ≤ P * row l .observed
+  pub observed-sequence-low : row l .observed ≤ r .observed .sequence
+  pub observed-sequence-high : r .observed .sequence ≤ 4000 * row l .observed
+  pub sequence : r .sequence ≤ 4000
+  pub answer : r .answer ≤ 2
+
+-- the fields of a mutex
+pub record Ranges (P T : ℕ) (x : reference.Mutex) : Type 0 where
+  pub count : x .count ≤ T + 1
+  pub queue : sum (out T) (x .queue) ≡ 0
+  pub owner : x .owner ≤ T
+  pub token : x .token .processor ≤ P
+  pub token-low : some (x .token .processor) ≤ x .token .sequence
+  pub token-high : x .token .sequence ≤ 4000 * some (x .token .processor)
+
+pub record Regular (s : reference.State) : Type 0 where
+  pub p-range : In 8 (s .P)
+  pub t-range : In 32 (s .T)
+  pub m-range : In 8 (s .M)
+  pub applied : s .applied ≤ 4000
+  pub placed : Placed s
+  pub ready : sum (out (s .T)) (s .ready) ≡ 0
+  pub registers : (p : ℕ) → In (s .P) p → Registers (s .P) (s .T) (s .M) (processor-at s p .position) (processor-at s p)
+  pub mutex : (m : ℕ) → In (s .M) m → Ranges (s .P) (s .T) (mutex-at s m)
+
+-- ---- the register table
+
+record Small (w : Row) : Type 0 where
+  number : w .number ≤ 24
+  current : w .current ≤ 1
+  transit : w .transit ≤ 1
+  mutex : w .mutex ≤ 1
+  observed : w .observed ≤ 1
+
+row-small : (l : Line) → Small (row l)
+row-small App = omega arith
+row-small CI2 = omega arith
+row-small CI3 = omega arith
+row-small L1 = omega arith
+row-small L3 = omega arith
+row-small L4 = omega arith
+row-small L6 = omega arith
+row-small L7 = omega arith
+row-small L8 = omega arith
+row-small L9 = omega arith
+row-small L10 = omega arith
+row-small TL1 = omega arith
+row-small GT1 = omega arith
+row-small GT3 = omega arith
+row-small TL3 = omega arith
+row-small U1 = omega arith
+row-small H2 = omega arith
+row-small H3 = omega arith
+row-small H5 = omega arith
+row-small H6 = omega arith
+row-small H8 = omega arith
+row-small Y1 = omega arith
+row-small Y2 = omega arith
+row-small Y3 = omega arith
+row-small C2 = omega arith
+
+register-fits : (c top n : ℕ) → c ≤ 1 → c ≤ n → n ≤ top * c → register-ok c top n ≡ true
+register-fits zero top n one low high = eq-eqb n 0 (omega arith)
+register-fits (suc zero) top n one low high = true-range 1 top n low (omega arith)
+register-fits (suc (suc c)) top n one low high = absurd (omega arith)
+
+-- within its range
+record Within (c top n : ℕ) : Type 0 where
+  low : c ≤ n
+  high : n ≤ top * c
+  most : n ≤ top
+
+fits-register : (c top n : ℕ) → c ≤ 1 → register-ok c top n ≡ true → Within c top n
+fits-register zero top n one e = omega (arith, eqb-true n 0 e)
+fits-register (suc zero) top n one e = omega (arith, range-true 1 top n e)
+fits-register (suc (suc c)) top n one e = absurd (omega arith)
+
+-- ---- tokens
+
+token-fits : (top : ℕ) (t : Token) → t .processor ≤ top → some (t .processor) ≤ t .sequence → t .sequence ≤ 4000 * some (t .processor) → token-ok top t ≡ true
+token-fits top t a b c = by (t .processor) refl
+  where
+    by : (p : ℕ) → t .processor ≡ p → token-ok top t ≡ true
+    by zero e =
+        let z : some (t .processor) ≡ 0 = ap some e in
+        both (both (le-leb (t .processor) top a) (le-leb (t .sequence) 4000 (omega arith))) (rw (eq-eqb (t .processor) 0 e, eq-eqb (t .sequence) 0 (omega arith)))
+    by (suc p) e =
+        let z : some (t .processor) ≡ 1 = ap some e in
+        both (both (le-leb (t .processor) top a) (le-leb (t .sequence) 4000 (omega arith)))
+        (rw (ne-eqb (t .processor) 0 (omega arith), lt-ltb 0 (t .processor) (omega arith), lt-ltb 0 (t .sequence) (omega arith)))
+
+record Token-ranges (top : ℕ) (t : Token) : Type 0 where
+  processor : t .processor ≤ top
+  low : some (t .processor) ≤ t .sequence
+  high : t .sequence ≤ 4000 * some (t .processor)
+
+fits-token : (top : ℕ) (t : Token) → token-ok top t ≡ true → Token-ranges top t
+fits-token top t e =
+    let a = (leb-true (t .processor) top and leb-true (t .sequence) 4000) (both-left _ _ e) in
+    by (eqb (t .processor) 0 && eqb (t .sequence) 0) refl a (both-right (leb (t .processor) top && leb (t .sequence) 4000) _ e)
+  where
+    by : (b : Bool) → eqb (t .processor) 0 && eqb (t .sequence) 0 ≡ b → (t .processor ≤ top) × (t .sequence ≤ 4000) → b || ltb 0 (t .processor) && ltb 0 (t .sequence) ≡ true → Token-ranges top t
+    by true z a e = let w = (eqb-true (t .processor) 0 and eqb-true (t .sequence) 0) z in omega (arith, ap some (w .0), w .1, a)
+    by false z a e = let w = (ltb-true 0 (t .processor) and ltb-true 0 (t .sequence)) e in omega (arith, some-pos (t .processor) (w .0), w .1, a)
+
+-- of a token that is there where a column has 1
+observed-some : (c top : ℕ) (t : Token) → c ≤ 1 → c ≤ t .processor → t .processor ≤ top * c → some (t .processor) ≡ c
+observed-some zero top t one a b = omega (arith, some-le (t .processor))
+observed-some (suc zero) top t one a b = some-pos (t .processor) a
+observed-some (suc (suc c)) top t one a b = absurd (omega arith)
+
+-- ---- queues of threads
+
+queue-fits : (t : ℕ) (q : List ℕ) → sum (out t) q ≡ 0 → every (in-range 1 t) q ≡ true
+unfolding every sum
+queue-fits t [] h = refl
+queue-fits t (x ∷ q) h = let i = out-in t x (omega arith) in both (true-range 1 t x (i .0) (i .1)) (queue-fits t q (omega arith))
+
+fits-queue : (t : ℕ) (q : List ℕ) → every (in-range 1 t) q ≡ true → sum (out t) q ≡ 0
+unfolding every sum
+fits-queue t [] h = refl
+fits-queue t (x ∷ q) h =
+    let i = range-true 1 t x (both-left (in-range 1 t x) (every (in-range 1 t) q) h) in
+    omega (arith, in-out t x (i .0) (i .1), fits-queue t q (both-right (in-range 1 t x) (every (in-range 1 t) q) h))
+
+first-most : (t : ℕ) (q : List ℕ) → every (in-range 1 t) q ≡ true → first q ≤ t
+unfolding every
+first-most t [] e = omega arith
+first-most t (x ∷ q) e = range-true 1 t x (both-left (in-range 1 t x) (every (in-range 1 t) q) e) .1
+
+behind-most : (t k : ℕ) (q : List ℕ) → every (in-range 1 t) q ≡ true → behind k q ≤ t
+unfolding every behind
+behind-most t k [] e = omega arith
+behind-most t k (x ∷ q) e = by (eqb x k) (behind-most t k q rest)
+  where
+    rest : every (in-range 1 t) q ≡ true
+    rest = both-right (in-range 1 t x) (every (in-range 1 t) q) e
+
+    by : (b : Bool) → behind k q ≤ t → choose b (first q) (behind k q) ≤ t
+    by true h = first-most t q rest
+    by false h = h
+
+-- ---- a regular state is allowed
+
+module _ (s : reference.State) (g : Regular s) where
+  queue-threads : (q : ℕ) → q ≤ s .M → every (in-range 1 (s .T)) (queue-at s q) ≡ true
+  queue-threads zero l = queue-fits (s .T) (s .ready) (g .ready)
+  queue-threads (suc m) l = queue-fits (s .T) (mutex-at s (suc m) .queue) (g .mutex (suc m) (omega arith) .queue)
+
+  pub regular-fits : Fits s
+  regular-fits = record { placed = g .placed; p-most = g .p-range .1; m-most = g .m-range .1; t-most = g .t-range .1; queues = queue-threads }
+
+  processor-fits : (p : ℕ) → In (s .P) p → processor-ok (s .P) (s .T) (s .M) (processor-of (encode s) p) ≡ true
+  unfolding processor-ok encode
+  processor-fits p i =
+      let x : reference.Processor = processor-at s p in
+      let t = g .registers p i in
+      let w = row-small (x .position) in
+      let e = observed-some (row (x .position) .observed) (s .P) (token-record (x .observed)) (w .observed) (t .observed-low) (t .observed-high) in
+      rw (read-processor s regular-fits p, line-number (x .position))
+      (both
+      (both
+      (both
+      (both
+      (both
+      (both
+      (both (le-leb (row (x .position) .number) 24 (w .number)) (register-fits (row (x .position) .current) (s .T) (x .current) (w .current) (t .current-low) (t .current-high)))
+      (register-fits (row (x .position) .transit) (s .T) (x .transit) (w .transit) (t .transit-low) (t .transit-high)))
+      (register-fits (row (x .position) .mutex) (s .M) (x .mutex) (w .mutex) (t .mutex-low) (t .mutex-high)))
+      (register-fits (row (x .position) .observed) (s .P) (x .observed .processor) (w .observed) (t .observed-low) (t .observed-high)))
+      (token-fits (s .P) (token-record (x .observed)) (most (row (x .position) .observed) (w .observed) (t .observed-high)) (rw e (t .observed-sequence-low)) (rw e (t .observed-sequence-high))))
+      (le-leb (x .sequence) 4000 (t .sequence)))
+      (le-leb (x .answer) 2 (t .answer)))
+    where
+      most : (c : ℕ) → c ≤ 1 → processor-at s p .observed .processor ≤ s .P * c → processor-at s p .observed .processor ≤ s .P
+      most zero a b = omega arith
+      most (suc zero) a b = omega arith
+      most (suc (suc c)) a b = absurd (omega arith)
+
+  mutex-fits : (m : ℕ) → In (s .M) m → mutex-ok (s .P) (s .T) (first-of (encode s) m) (mutex-of (encode s) m) ≡ true
+  unfolding mutex-ok encode
+  mutex-fits zero i = absurd (omega (arith, i .0))
+  mutex-fits (suc m) i =
+      let x : reference.Mutex = mutex-at s (suc m) in
+      let z = g .mutex (suc m) i in
+      rw (read-first s regular-fits (suc m), read-mutex s regular-fits (suc m))
+      (both
+      (both
+      (both (le-leb (x .count) (s .T + 1) (z .count)) (le-leb (first (x .queue)) (s .T) (first-most (s .T) (x .queue) (queue-threads (suc m) (i .1)))))
+      (le-leb (x .owner) (s .T) (z .owner)))
+      (token-fits (s .P) (token-record (x .token)) (z .token) (z .token-low) (z .token-high)))
+
+  thread-fits : (k : ℕ) → In (s .T) k → thread-ok (s .P) (s .T) (s .M) (thread-of (encode s) k) ≡ true
+  unfolding thread-ok encode
+  thread-fits k i =
+      let x = spot-of s (g .placed) k i in
+      rw (read-entry s regular-fits k i, spot-entry s (g .placed) k i (x .0) (x .1)) (by (x .0) (x .1))
+    where
+      by : (x : Spot) → AtSpot s k x → thread-ok (s .P) (s .T) (s .M) (thread-record (entry-for s k x)) ≡ true
+      by Spot.ready a = le-leb (behind k (s .ready)) (s .T) (behind-most (s .T) k (s .ready) (queue-threads 0 (omega arith)))
+      by (Spot.waiting zero) a = absurd (omega (arith, a .0))
+      by (Spot.waiting (suc m)) a =
+          both (true-range 1 (s .M) (suc m) (a .0 .0) (a .0 .1))
+          (le-leb (behind k (mutex-at s (suc m) .queue)) (s .T) (behind-most (s .T) k (mutex-at s (suc m) .queue) (queue-threads (suc m) (a .0 .1))))
+      by (Spot.current p) a = both (true-range 1 (s .P) p (a .0 .0) (a .0 .1)) refl
+      by (Spot.transit p) a = both (true-range 1 (s .P) p (a .0 .0) (a .0 .1)) refl
+      by Spot.new a = refl
+      by Spot.terminated a = refl
+
+  fields : Fields (encode s)
+  unfolding encode
+  fields =
+      record {
+        p-range = g .p-range;
+        t-range = g .t-range;
+        m-range = g .m-range;
+        applied = g .applied;
+        first = rw (read-first s regular-fits 0) (first-most (s .T) (s .ready) (queue-threads 0 (omega arith)));
+        processor = processor-fits;
+        mutex = mutex-fits;
+        thread = thread-fits;
+      }
+
+  pub regular-allowed : Allowed s
+  regular-allowed =
+      record {
+        processors = g .placed .processors;
+        mutexes = g .placed .mutexes;
+        lives = g .placed .lives;
+        fields = say-fields (encode s) fields;
+        ready = queue-threads 0 (omega arith);
+        queues = by;
+        one-place = g .placed .one-place;
+      }
+    where
+      by : (m : ℕ) → In (s .M) m → every (in-range 1 (s .T)) (mutex-at s m .queue) ≡ true
+      by zero i = absurd (omega (arith, i .0))
+      by (suc m) i = queue-threads (suc m) (i .1)
+
+-- ---- and an allowed state is regular
+
+processor-registers : (P T M : ℕ) (x : reference.Processor) → processor-ok P T M (processor-record x) ≡ true → Registers P T M (x .position) x
+unfolding processor-ok
+processor-registers P T M x e =
+    let l = x .position in
+    let w = row-small l in
+    let f = (
+    leb-true (row l .number) 24 and fits-register (row l .current) T (x .current) (w .current) and fits-register (row l .transit) T (x .transit) (w .transit) and
+    fits-register (row l .mutex) M (x .mutex) (w .mutex) and fits-register (row l .observed) P (x .observed .processor) (w .observed) and
+    fits-token P (token-record (x .observed)) and leb-true (x .sequence) 4000 and leb-true (x .answer) 2
+    ) (rw (line-number l) at e) in
+    omega (arith, f .0 .0 .0 .0 .0 .0 .1, f .0 .0 .0 .0 .0 .1, f .0 .0 .0 .0 .1, f .0 .0 .0 .1, f .0 .0 .1, f .0 .1, f .1, observed-some (row l .observed) P (token-record (x .observed)) (w .observed) (f .0 .0 .0 .1 .low) (f .0 .0 .0 .1 .high))
+
+module _ (s : reference.State) (h : Allowed s) where
+  mutex-ranges : (m : ℕ) → In (s .M) m → mutex-ok (s .P) (s .T) (first-of (encode s) m) (mutex-of (encode s) m) ≡ true → Ranges (s .P) (s .T) (mutex-at s m)
+  unfolding mutex-ok
+  mutex-ranges m i e =
+      let x : reference.Mutex = mutex-at s m in
+      let f = (
+      leb-true (x .count) (s .T + 1) and leb-true (first-of (encode s) m) (s .T) and leb-true (x .owner) (s .T) and fits-token (s .P) (token-record (x .token))
+      ) (rw (read-mutex s (allowed-fits s h) m) at e) in
+      omega (arith, f .0 .0 .0, f .0 .1, f .1, fits-queue (s .T) (x .queue) (h .queues m i))
+
+  pub allowed-regular : Regular s
+  unfolding encode
+  allowed-regular =
+      let f = fields-say (encode s) (h .fields) in
+      record {
+        p-range = f .p-range;
+        t-range = f .t-range;
+        m-range = f .m-range;
+        applied = f .applied;
+        placed = allowed-placed h;
+        ready = fits-queue (s .T) (s .ready) (h .ready);
+        registers = λ p i. processor-registers (s .P) (s .T) (s .M) (processor-at s p) (rw (read-processor s (allowed-fits s h) p) at (f .processor p i));
+        mutex = λ m i. mutex-ranges m i (f .mutex m i);
+      }

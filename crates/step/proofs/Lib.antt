@@ -1,0 +1,2 @@
+-- What the proofs of the functions share, and the theory that ties the code to the reference machine.
+pub mod Match

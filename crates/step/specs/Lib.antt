@@ -1,0 +1,2 @@
+-- What the code computes on its records.
+pub mod Model

@@ -1,0 +1,58 @@
+// The machine's lines and calls as small functions, the causes for refusing a move, and one function for a whole move.
+pub mod breaks;
+pub mod call;
+pub mod cause;
+pub mod line;
+pub mod lock;
+pub mod moves;
+pub mod ready;
+pub mod registers;
+pub mod trylock;
+pub mod unlock;
+
+use state::Mutex;
+use state::Processor;
+use state::State;
+use state::chain::Taken;
+
+// What a processor sees: its number, its registers, its mutex, and what taking from that mutex's queue and from the ready queue finds.
+pub struct View {
+    pub number: u8,
+    pub proc: Processor,
+    pub mutex: Mutex,
+    pub queue: Taken,
+    pub ready: Taken,
+}
+
+// How a move changes the queues. Take(q, k, rest): the front thread k of queue q goes to the transit register, and rest is the first of what remains.
+// Join(q, k): thread k joins queue q. Mark(k, status, holder): thread k is in no queue, with that status and holder.
+pub enum Transfer {
+    Stay,
+    Take(u8, u8, u8),
+    Join(u8, u8),
+    Mark(u8, u8, u8),
+}
+
+// What a line or a call makes of a view.
+pub struct Effect {
+    pub proc: Processor,
+    pub mutex: Mutex,
+    pub transfer: Transfer,
+}
+
+// The statuses of a thread that is in no queue.
+pub struct Status {}
+
+impl Status {
+    pub const CURRENT: u8 = 3;
+
+    pub const TRANSIT: u8 = 4;
+
+    pub const TERMINATED: u8 = 5;
+}
+
+// A move's answer: 0, or why it is refused, and the state after it.
+pub struct Moved {
+    pub refusal: u8,
+    pub state: State,
+}

@@ -1,0 +1,81 @@
+// The lines that see the ready queue: those of an idle processor, of yield and of create.
+ghost use mathlib.Core.Path.{_≡_};
+ghost use Rattle.step.specs.Model.{at-CI2, at-CI3, at-Y1, at-Y2, at-Y3, at-C2};
+use crate::Effect;
+use crate::Status;
+use crate::Transfer;
+use crate::View;
+use crate::registers::away;
+use crate::registers::join_ready;
+use crate::registers::load;
+use crate::registers::stays;
+use state::Position;
+use state::chain::Taken;
+
+// CI2: the ready queue is empty: stay. Else its first goes to the transit register; CI3.
+pub(crate) fn ci2(v: View) -> Effect
+    ensures { λ e. ⌜ e ≡ at-CI2 v ⌝ }
+{
+    let mut r = v.proc;
+    let x = v.mutex;
+    let ready = v.ready;
+    let Taken::Thread(k, rest) = ready else {
+        return stays(away(r, Position::CI2), x);
+    };
+    r.transit = k;
+    Effect {
+        proc: away(r, Position::CI3),
+        mutex: x,
+        transfer: Transfer::Take(0, k, rest),
+    }
+}
+
+// CI3: the thread in transit is loaded; App.
+pub(crate) fn ci3(v: View) -> Effect
+    ensures { λ e. ⌜ e ≡ at-CI3 v ⌝ }
+{
+    load(v)
+}
+
+// Y1: the ready queue is empty: App. Else Y2.
+pub(crate) fn y1(v: View) -> Effect
+    ensures { λ e. ⌜ e ≡ at-Y1 v ⌝ }
+{
+    let r = v.proc;
+    let x = v.mutex;
+    let ready = v.ready;
+    match ready {
+        Taken::Nothing => stays(away(r, Position::APP), x),
+        Taken::Thread(_, _) => stays(away(r, Position::Y2), x),
+    }
+}
+
+// Y2: the current thread goes to the transit register; Y3.
+pub(crate) fn y2(v: View) -> Effect
+    ensures { λ e. ⌜ e ≡ at-Y2 v ⌝ }
+{
+    let mut r = v.proc;
+    let x = v.mutex;
+    let k = r.current;
+    r.current = 0;
+    r.transit = k;
+    Effect {
+        proc: away(r, Position::Y3),
+        mutex: x,
+        transfer: Transfer::Mark(k, Status::TRANSIT, v.number),
+    }
+}
+
+// Y3: the thread in transit joins the ready queue; CI2.
+pub(crate) fn y3(v: View) -> Effect
+    ensures { λ e. ⌜ e ≡ at-Y3 v ⌝ }
+{
+    join_ready(v, Position::CI2)
+}
+
+// C2: the thread in transit joins the ready queue; App.
+pub(crate) fn c2(v: View) -> Effect
+    ensures { λ e. ⌜ e ≡ at-C2 v ⌝ }
+{
+    join_ready(v, Position::APP)
+}
