@@ -1,0 +1,34 @@
+-- A move of the code on the record of a reached state is the reference machine's.
+-- Assumes nothing.
+use Prim.Native.Nat.{ℕ, zero, suc}
+use mathlib.Core.Bool.{Bool, true, false}
+use mathlib.Core.List.{List}
+use mathlib.Core.Path.{_≡_, refl, ap, _∙_}
+use lib.Dec.{eqb}
+use Rattle.state.specs.Association.{encode}
+use Rattle.step.specs.declared.Moved.{Moved}
+use Rattle.step.specs.Model.{moved-of}
+use Rattle.reference.specs.Refusal.{refuse}
+use Rattle.reference.specs.Lists.{choose, if-zero}
+use Rattle.reference.specs.State.{State}
+use Rattle.reference.specs.Start.{Config, config-cause, start}
+use Rattle.reference.specs.Step.{Move, next, run}
+use Rattle.reference.specs.Cause.{cause, accepted}
+use Rattle.reference.proofs.Laws.{good}
+use Rattle.reference.proofs.Break.{never-breaks}
+use Rattle.shown.proofs.Reached.{reached-allowed}
+use Rattle.agreement.proofs.Moved.{moved-shows}
+
+abbrev pub made-of : State → Move → Moved
+made-of s a = record { refusal = cause s a; state = choose (eqb (cause s a) 0) (encode (next s a)) (encode s) }
+
+pub moved-reached : (c : Config) (ms : List Move) → config-cause c ≡ 0 → accepted (start c) ms ≡ true → (a : Move) →
+    moved-of (encode (run (start c) ms)) (a .processor) (a .action) (a .operand) ≡ made-of (run (start c) ms) a
+moved-reached c ms e ok a =
+    let s : State = run (start c) ms in
+    moved-shows s (reached-allowed c e ms ok) a ∙
+    ap (λ (n : ℕ). record { refusal = n; state = choose (eqb n 0) (encode (next s a)) (encode s) }) (only (cause s a) (λ z. never-breaks s a (good c e ms ok) z))
+  where
+    only : (n : ℕ) {b : Bool} → (n ≡ 0 → b ≡ false) → if-zero n (refuse b 15 0) n ≡ n
+    only zero h = rw (h refl)
+    only (suc n) h = refl

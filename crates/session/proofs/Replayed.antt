@@ -1,0 +1,123 @@
+-- Replaying a journal's moves: one more move, and the first that is refused.
+-- Assumes nothing.
+use Prim.Native.Nat.{ℕ, zero, suc, _+_, _*_, _≤_, _<_}
+use mathlib.Core.Bool.{Bool, true, false, _&&_, true≢false}
+use mathlib.Core.List.{List, [], _∷_, _++_}
+use mathlib.Core.Path.{_≡_, refl, sym, ap, _∙_}
+use native.Mathlib.Omega.{arith}
+use native.Mathlib.Numerals.{add-one}
+use lib.Dec.{eqb}
+use lib.ListN.{length, getD, drop}
+use lib.Seq.{getD-drop}
+use borrow.Author.Tests.{ne-eqb, eq-eqb}
+use Rattle.state.specs.declared.State.{State as Record}
+use Rattle.state.specs.Association.{encode}
+use Rattle.state.specs.Model.{start-record}
+use Rattle.state.proofs.Started.{start-shown}
+use Rattle.step.specs.declared.Moved.{Moved}
+use Rattle.step.specs.Model.{moved-of}
+use Rattle.reference.specs.Start.{Config, config-cause, start}
+use Rattle.reference.proofs.Session.{run-snoc, accepted-snoc}
+use Rattle.session.specs.Replay.{Replays}
+use Rattle.session.proofs.Reached.{made-of, moved-reached}
+use Rattle.reference.specs.State.{State}
+use Rattle.reference.specs.Step.{Move, next, run}
+use Rattle.reference.specs.Cause.{cause, accepted}
+use Rattle.reference.specs.Session.{moves, all-but-last}
+
+-- move i + 1 of a journal
+abbrev pub move-at : List ℕ → ℕ → Move
+move-at j i = record { processor = getD j (3 * i) 0; action = getD j (3 * i + 1) 0; operand = getD j (3 * i + 2) 0 }
+
+move-later : (j : List ℕ) (i : ℕ) → move-at (drop 3 j) i ≡ move-at j (suc i)
+move-later j i =
+    let a : getD (drop 3 j) (3 * i) 0 ≡ getD j (3 * suc i) 0 = getD-drop 3 j (3 * i) 0 ∙ ap (λ (n : ℕ). getD j n 0) (omega arith) in
+    let b : getD (drop 3 j) (3 * i + 1) 0 ≡ getD j (3 * suc i + 1) 0 = getD-drop 3 j (3 * i + 1) 0 ∙ ap (λ (n : ℕ). getD j n 0) (omega arith) in
+    let c : getD (drop 3 j) (3 * i + 2) 0 ≡ getD j (3 * suc i + 2) 0 = getD-drop 3 j (3 * i + 2) 0 ∙ ap (λ (n : ℕ). getD j n 0) (omega arith) in
+    (λ k. record { processor = a k; action = b k; operand = c k })
+
+pub moves-none : (j : List ℕ) → moves 0 j ≡ []
+unfolding moves
+moves-none j = refl
+
+-- one more move of a journal
+pub moves-more : (n : ℕ) (j : List ℕ) → moves (n + 1) j ≡ moves n j ++ move-at j n ∷ []
+unfolding moves
+moves-more zero j = refl
+moves-more (suc n) j =
+    let e : suc n + 1 ≡ suc (n + 1) = omega arith in
+    rw (e, moves-more n (drop 3 j), move-later j n)
+
+pub length-moves : (n : ℕ) (j : List ℕ) → length (moves n j) ≡ n
+unfolding moves
+length-moves zero j = refl
+length-moves (suc n) j = ap suc (length-moves n (drop 3 j))
+
+-- the moves of a journal go on with the next one
+pub moves-on : (n i : ℕ) (j : List ℕ) → i < n → (rest : List Move) × (moves n j ≡ moves i j ++ move-at j i ∷ rest)
+unfolding moves
+moves-on zero i j h = absurd (omega arith)
+moves-on (suc n) zero j h = (moves n (drop 3 j), refl)
+moves-on (suc n) (suc i) j h =
+    let r = moves-on n i (drop 3 j) (omega arith) in
+    (r .0, ap (λ (l : List Move). move-at j 0 ∷ l) (r .1) ∙ ap (λ (a : Move). move-at j 0 ∷ moves i (drop 3 j) ++ a ∷ r .0) (move-later j i))
+
+snoc-but-last : (ms : List Move) (a : Move) → all-but-last (ms ++ a ∷ []) ≡ ms
+unfolding all-but-last
+snoc-but-last [] a = refl
+snoc-but-last (b ∷ []) a = refl
+snoc-but-last (b ∷ d ∷ ms) a = ap (λ (l : List Move). b ∷ l) (snoc-but-last (d ∷ ms) a)
+
+-- all but the last of them
+pub moves-but-last : (n : ℕ) (j : List ℕ) → all-but-last (moves (n + 1) j) ≡ moves n j
+moves-but-last n j = ap all-but-last (moves-more n j) ∙ snoc-but-last (moves n j) (move-at j n)
+
+-- a list with a refused move in it is not accepted
+pub refused-on : (ms : List Move) (s : State) (a : Move) (rest : List Move) → (cause (run s ms) a ≡ 0 → ⊥) → accepted s (ms ++ a ∷ rest) ≡ false
+unfolding run accepted
+refused-on [] s a rest h = rw (ne-eqb (cause s a) 0 h)
+refused-on (b ∷ ms) s a rest h = rw (refused-on ms (next s b) a rest h) (none (eqb (cause s b) 0))
+  where
+    none : (b : Bool) → b && false ≡ false
+    none true = refl
+    none false = refl
+
+-- ---- the code's replay, after i moves
+
+pub record Going (c : Config) (j : List ℕ) (i : ℕ) (s : Record) : Type 0 where
+  pub all : accepted (start c) (moves i j) ≡ true
+  pub state : s ≡ encode (run (start c) (moves i j))
+
+module _ (c : Config) (right : config-cause c ≡ 0) (j : List ℕ) where
+  pub going-start : (s : Record) → s ≡ start-record (c .P) (c .T) (c .M) (c .B) → Going c j 0 s
+  unfolding moves run accepted
+  going-start s e = record { all = refl; state = e ∙ start-shown c right }
+
+  module _ (i : ℕ) (s : Record) (g : Going c j i s) (r : Moved)
+      (e : r ≡ moved-of s (getD j (3 * i) 0) (getD j (3 * i + 1) 0) (getD j (3 * i + 2) 0)) where
+    made : r ≡ made-of (run (start c) (moves i j)) (move-at j i)
+    made =
+        e ∙ ap (λ (x : Record). moved-of x (getD j (3 * i) 0) (getD j (3 * i + 1) 0) (getD j (3 * i + 2) 0)) (g .state) ∙
+        moved-reached c (moves i j) right (g .all) (move-at j i)
+
+    caused : r .refusal ≡ cause (run (start c) (moves i j)) (move-at j i)
+    caused = ap (λ (x : Moved). x .refusal) made
+
+    pub going-more : r .refusal ≡ 0 → Going c j (i + 1) (r .state)
+    going-more z =
+        let n : cause (run (start c) (moves i j)) (move-at j i) ≡ 0 = sym caused ∙ z in
+        record {
+          all = rw (moves-more i j) (accepted-snoc (moves i j) (start c) (move-at j i) (g .all) n);
+          state = ap (λ (x : Moved). x .state) made ∙ rw (eq-eqb (cause (run (start c) (moves i j)) (move-at j i)) 0 n, moves-more i j, run-snoc (moves i j) (start c) (move-at j i));
+        }
+
+    pub going-stop : (n : ℕ) → i < n → (r .refusal ≡ 0 → ⊥) → Replays c (moves n j) (record { all = false; state = s })
+    going-stop n h z =
+        let m = moves-on n i j h in
+        record {
+          all = sym (rw (m .1) (refused-on (moves i j) (start c) (move-at j i) (m .0) (λ x. z (caused ∙ x))));
+          state = λ x. absurd (true≢false (sym x));
+        }
+
+  pub going-end : (n : ℕ) (s : Record) → Going c j n s → Replays c (moves n j) (record { all = true; state = s })
+  going-end n s g = record { all = sym (g .all); state = λ x. g .state }

@@ -1,0 +1,87 @@
+-- What start, move, step back and the journal's front answer, on all inputs: the equations that their contracts state.
+-- Assumes nothing.
+use Prim.Native.Nat.{ℕ, _+_, _*_}
+use mathlib.Core.Bool.{not}
+use mathlib.Core.List.{List, [], _∷_, _++_}
+use lib.Dec.{eqb}
+use lib.ListN.{length, take, drop}
+use Rattle.session.specs.declared.Answer.{Answer}
+use Rattle.state.specs.declared.Session.{Session}
+use Rattle.state.specs.Record.{zero-session}
+use Rattle.state.specs.Association.{decode, session-record}
+use Rattle.state.specs.Rules.{session-ok}
+use Rattle.reference.specs.Refusal.{too-short, bad-record, nothing-applied, bad-journal, refuse}
+use Rattle.reference.specs.Lists.{choose, if-zero}
+use Rattle.reference.specs.State.{State}
+use Rattle.reference.specs.Start.{Config, config-cause, start}
+use Rattle.reference.specs.Step.{Move, next, run}
+use Rattle.reference.specs.Cause.{cause}
+use Rattle.reference.specs.Break.{step-breaks}
+use Rattle.reference.specs.Session.{bytes, moves, all-but-last, short, replays}
+
+-- the state that a record shows, and the start table read off it
+abbrev pub shown : Session → State
+shown r = decode (r .state)
+
+abbrev pub config-of : Session → Config
+config-of r = record { P = r .state .p; T = r .state .t; M = r .state .m; B = r .initial }
+
+-- a start table and a move, from their numbers
+abbrev pub table : ℕ → ℕ → ℕ → ℕ → Config
+table p t m b = record { P = p; T = t; M = m; B = b }
+
+abbrev pub move-of : ℕ → ℕ → ℕ → Move
+move-of p a o = record { processor = p; action = a; operand = o }
+
+-- accepted, a call gives the record that it makes; refused, the one that stands for it
+abbrev pub answered : ℕ → Session → Session → Answer
+answered n made kept = record { refusal = n; session = choose (eqb n 0) made kept }
+
+-- ---- start: 1; refused, an all-zero record
+
+unfoldable pub started : Config → Answer
+started c = answered (config-cause c) (session-record (start c) (c .B)) zero-session
+
+-- a cause that is there, else the later one
+abbrev pub or-later : ℕ → ℕ → ℕ
+or-later cause later = if-zero cause later cause
+
+-- 10, 15: the first causes of each call that is lent a journal of n bytes
+unfoldable pub lent-refusal : Session → ℕ → ℕ
+lent-refusal r n = refuse (short n) too-short (refuse (not (session-ok r)) bad-record 0)
+
+-- ---- move: 10, 15 (record), 2, 3, 8, 4 or 5, 6, 7, 15 (step); refused, the record handed in and the journal as it was
+
+unfoldable pub move-refusal : Session → List ℕ → Move → ℕ
+move-refusal r j a =
+    or-later (lent-refusal r (length j)) (or-later (cause (shown r) a) (refuse (step-breaks (shown r) a) bad-record 0))
+
+unfoldable pub moved : Session → List ℕ → Move → Answer
+moved r j a = answered (move-refusal r j a) (session-record (next (shown r) a) (r .initial)) r
+
+-- the journal with the move at 3n, every other byte as it was
+unfoldable pub written-at : ℕ → Move → List ℕ → List ℕ
+written-at n a j = take (3 * n) j ++ bytes (a ∷ []) ++ drop (3 * n + 3) j
+
+unfoldable pub journal-after : Session → List ℕ → Move → List ℕ
+journal-after r j a = choose (eqb (move-refusal r j a) 0) (written-at (shown r .applied) a j) j
+
+-- ---- step back: 10, 15, 9, 16; refused, the record handed in. The journal is left.
+
+-- the journal's standing moves
+abbrev pub standing : Session → List ℕ → List Move
+standing r j = moves (shown r .applied) j
+
+unfoldable pub undo-refusal : Session → List ℕ → ℕ
+undo-refusal r j =
+    or-later (lent-refusal r (length j))
+    (refuse (eqb (shown r .applied) 0) nothing-applied
+    (refuse (not (replays (start (config-of r)) (standing r j) (shown r))) bad-journal 0))
+
+unfoldable pub undone : Session → List ℕ → Answer
+undone r j = answered (undo-refusal r j) (session-record (run (start (config-of r)) (all-but-last (standing r j))) (r .initial)) r
+
+-- ---- the journal's front: 10, 15; refused, its empty front
+
+unfoldable pub front : Session → List ℕ → List ℕ
+front r j = choose (eqb (lent-refusal r (length j)) 0) (take (3 * shown r .applied) j) []

@@ -1,0 +1,125 @@
+-- K1 to K10 of the scope, as rows of one table over what the entry points answer.
+-- Assumes nothing.
+use Prim.Native.Nat.{ℕ, zero, suc}
+use mathlib.Core.List.{List, [], _∷_, _++_}
+use mathlib.Core.Path.{_≡_}
+use lib.ListN.{replicate, set}
+use Rattle.session.specs.declared.Answer.{Answer}
+use Rattle.state.specs.declared.Token.{Token}
+use Rattle.state.specs.declared.Thread.{Thread}
+use Rattle.state.specs.declared.Processor.{Processor}
+use Rattle.state.specs.declared.Mutex.{Mutex}
+use Rattle.state.specs.declared.State.{State}
+use Rattle.state.specs.declared.Session.{Session}
+use Rattle.state.specs.Record.{zero-thread, zero-processor, zero-mutex, zero-session, processor-of, mutex-of, thread-of}
+use Rattle.reference.specs.Start.{Config}
+use Rattle.reference.specs.Step.{Move}
+use Rattle.session.specs.Contract.{started, moved, journal-after}
+
+abbrev pub config : ℕ → ℕ → ℕ → ℕ → Config
+config p t m b = record { P = p; T = t; M = m; B = b }
+
+abbrev pub by : ℕ → ℕ → ℕ → Move
+by p a o = record { processor = p; action = a; operand = o }
+
+-- n goes of processor p
+abbrev pub goes : ℕ → ℕ → List Move
+goes p zero = []
+goes p (suc n) = by p 0 0 ∷ goes p n
+
+abbrev pub token : ℕ → ℕ → Token
+token p n = record { processor = p; sequence = n }
+
+abbrev pub thread : ℕ → ℕ → ℕ → Thread
+thread s h n = record { status = s; holder = h; next = n }
+
+abbrev pub mutex : ℕ → ℕ → Token → Mutex
+mutex c o t = record { count = c; owner = o; token = t }
+
+-- at a line: current and transit thread, mutex, observed token, own sequence number
+abbrev pub processor : ℕ → ℕ → ℕ → ℕ → Token → ℕ → Processor
+processor l c t m o n = record { position = l; current = c; transit = t; mutex = m; observed = o; sequence = n; answer = 0 }
+
+-- a journal that is long enough
+unfoldable pub journal : List ℕ
+journal = replicate 12000 0
+
+-- the answers to a list of moves, and the record after them, each move with the record and the journal that the last one left
+unfoldable pub answers : Session → List ℕ → List Move → List ℕ
+answers r j [] = []
+answers r j (a ∷ rest) = moved r j a .refusal ∷ answers (moved r j a .session) (journal-after r j a) rest
+
+unfoldable pub record-after : Session → List ℕ → List Move → Session
+record-after r j [] = r
+record-after r j (a ∷ rest) = record-after (moved r j a .session) (journal-after r j a) rest
+
+-- from an accepted start every move is taken, and then the record is one of which `Q` holds
+pub record Taken (c : Config) (ms : List Move) (Q : State → Type 0) : Type 0 where
+  pub start : started c .refusal ≡ 0
+  pub moves : answers (started c .session) journal ms ≡ replicate (lib.ListN.length ms) 0
+  pub end : Q (record-after (started c .session) journal ms .state)
+
+-- S: both lock 1; processor 1 goes, 2 goes; 1 unlocks, goes through U1, H2, H5
+abbrev pub s : List Move
+s = by 1 1 1 ∷ by 2 1 1 ∷ by 1 0 0 ∷ by 2 0 0 ∷ by 1 3 1 ∷ goes 1 3
+
+-- K8's record: processor 2 at L8 has seen (1,1), the token is (1,2), thread 2 waits
+unfoldable pub at-l8 : Session
+at-l8 =
+    record {
+      state = record {
+        p = 2;
+        t = 2;
+        m = 1;
+        applied = 20;
+        chains = record {
+          firsts = set (replicate 9 0) 1 2;
+          threads = set (set (replicate 33 zero-thread) 1 (thread 3 1 0)) 2 (thread 2 1 0);
+        };
+        processors = set (set (replicate 9 zero-processor) 1 (processor 0 1 0 0 (token 0 0) 2)) 2 (processor 8 0 0 1 (token 1 1) 0);
+        mutexes = set (replicate 9 zero-mutex) 1 (mutex 1 0 (token 1 2));
+      };
+      initial = 2;
+    }
+
+-- K10's record: one processor at CI2, its thread terminated, n moves standing
+unfoldable pub idle : ℕ → Session
+idle n =
+    record {
+      state = record {
+        p = 1;
+        t = 1;
+        m = 1;
+        applied = n;
+        chains = record { firsts = replicate 9 0; threads = set (replicate 33 zero-thread) 1 (thread 5 0 0) };
+        processors = set (replicate 9 zero-processor) 1 (processor 1 0 0 0 (token 0 0) 0);
+        mutexes = replicate 9 zero-mutex;
+      };
+      initial = 1;
+    }
+
+pub record Table : Type 0 where
+  -- K1 start 8 32 8 32 taken; K2 P 9, K3 B 0: refused 1
+  pub k1 : started (config 8 32 8 32) .refusal ≡ 0
+  pub k2 : started (config 9 32 8 32) ≡ record { refusal = 1; session = zero-session }
+  pub k3 : started (config 8 32 8 0) ≡ record { refusal = 1; session = zero-session }
+  -- K4, one thread: lock 1, go, lock 1, five goes (L1, L3, L4, L6, CI2). Count 2, owner 1, thread 1 waiting, position CI2
+  pub k4 : Taken (config 1 1 1 1) (by 1 1 1 ∷ by 1 0 0 ∷ by 1 1 1 ∷ goes 1 5)
+      (λ r. (mutex-of r 1 ≡ mutex 2 1 (token 0 0)) × (thread-of r 1 ≡ thread 2 1 0) × (processor-of r 1 .position ≡ 1))
+  -- S: token (1,1), count 1
+  pub s-token : Taken (config 2 2 1 2) s (λ r. mutex-of r 1 ≡ mutex 1 0 (token 1 1))
+  -- K5: 1 leaves at H6; 2 goes L3 to L10: owner 2, count 1
+  pub k5 : Taken (config 2 2 1 2) (s ++ goes 1 1 ++ goes 2 7) (λ r. (mutex-of r 1 ≡ mutex 1 2 (token 0 0)) × (processor-of r 2 .current ≡ 2))
+  -- K6: 2 goes L3, L4; 1 goes H6, H8, H2, H3: thread 2 owns and is ready; 2's L6 leads to CI2
+  pub k6 : Taken (config 2 2 1 2) (s ++ goes 2 2 ++ goes 1 4) (λ r. (mutex-of r 1 ≡ mutex 1 2 (token 0 0)) × (thread-of r 2 ≡ thread 1 0 0))
+  pub k6-idle : Taken (config 2 2 1 2) (s ++ goes 2 2 ++ goes 1 4 ++ goes 2 1) (λ r. processor-of r 2 .position ≡ 1)
+  -- K7, S with 3 processors and threads: 2 goes L3, L4; 1 goes H6; 3 trylocks through TL1, GT1, GT3: owner 3; 1's H8 fails; TL3 makes count 2
+  pub k7-owner : Taken (config 3 3 1 3) (s ++ goes 2 2 ++ goes 1 1 ++ by 3 2 1 ∷ goes 3 3) (λ r. mutex-of r 1 ≡ mutex 1 3 (token 0 0))
+  pub k7 : Taken (config 3 3 1 3) (s ++ goes 2 2 ++ goes 1 1 ++ by 3 2 1 ∷ goes 3 3 ++ goes 1 1 ++ goes 3 1)
+      (λ r. (mutex-of r 1 ≡ mutex 2 3 (token 0 0)) × (processor-of r 1 ≡ processor 0 1 0 0 (token 0 0) 1))
+  -- K8 L8 with seen (1,1), token (1,2): CI2
+  pub k8 : (moved at-l8 journal (by 2 0 0) .refusal ≡ 0) × (processor-of (moved at-l8 journal (by 2 0 0) .session .state) 2 ≡ processor 1 0 0 0 (token 0 0) 0)
+  -- K9 unlock by a stranger: 6
+  pub k9 : answers (started (config 2 2 1 2) .session) journal (by 1 1 1 ∷ by 1 0 0 ∷ by 2 3 1 ∷ []) ≡ 0 ∷ 0 ∷ 6 ∷ []
+  -- K10 a go at CI2 with 3,999 standing in the record is taken, with 4,000: 8
+  pub k10 : (moved (idle 3999) journal (by 1 0 0) .refusal ≡ 0) × (moved (idle 4000) journal (by 1 0 0) ≡ record { refusal = 8; session = idle 4000 })

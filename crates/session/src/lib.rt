@@ -1,0 +1,186 @@
+// Sessions: start, move, step back and the journal's front.
+pub mod journal;
+mod replay;
+mod same;
+
+ghost use mathlib.Core.Path.{_≡_};
+ghost use mathlib.Core.Bool.{true, _&&_};
+ghost use Prim.Native.Nat.{_+_, _≤_};
+ghost use Rattle.state.specs.Rules.{session-ok};
+ghost use Rattle.session.specs.Replay.{BeforeLast};
+ghost use Rattle.reference.specs.Lists.{in-range};
+ghost use lib.ListN.{length};
+ghost use Rattle.session.specs.Contract.{table, move-of, started, lent-refusal, moved, journal-after, undone, front};
+use crate::journal::write_move;
+use crate::replay::Replayed;
+use crate::replay::replay;
+use crate::same::same_state;
+use rules::session_ok;
+use state::Session;
+use state::State;
+
+// What a start, a move or a step back answers: the number that refuses it, or 0, and the session's record.
+pub struct Answer {
+    pub refusal: u8,
+    pub session: Session,
+}
+
+const BAD_CONFIG: u8 = 1;
+
+const NOTHING_APPLIED: u8 = 9;
+
+const TOO_SHORT: u8 = 10;
+
+const BAD_RECORD: u8 = 15;
+
+const BAD_JOURNAL: u8 = 16;
+
+fn in_range(lo: u8, hi: u8, n: u8) -> bool
+    ensures { λ r. ⌜ r ≡ in-range lo hi n ⌝ }
+{
+    (lo <= n) & (n <= hi)
+}
+
+fn config_ok(p: u8, t: u8, m: u8, b: u8) -> bool
+    ensures { λ r. ⌜ r ≡ in-range 1 8 p && in-range 1 32 t && in-range 1 8 m && in-range 1 t b ⌝ }
+{
+    in_range(1, 8, p) & in_range(1, 32, t) & in_range(1, 8, m) & in_range(1, t, b)
+}
+
+// Begins a session: P processors, T threads, M mutexes, B threads created at first.
+pub fn start(p: u8, t: u8, m: u8, b: u8) -> Answer
+    ensures { λ r. ⌜ r ≡ started (table p t m b) ⌝ }
+{
+    let ok = config_ok(p, t, m, b);
+    if ok {
+        let state = State::start(p, t, m, b);
+        return Answer {
+            refusal: 0,
+            session: Session { state, initial: b },
+        };
+    }
+    let state = State::zero();
+    Answer {
+        refusal: BAD_CONFIG,
+        session: Session { state, initial: 0 },
+    }
+}
+
+// The first causes of each call that is lent a journal of n bytes.
+fn lent(session: Session, n: usize) -> u8
+    ensures { λ r. ⌜ r ≡ lent-refusal session n ⌝ }
+{
+    if n < 12000 {
+        return TOO_SHORT;
+    }
+    let ok = session_ok(session);
+    if ok { 0 } else { BAD_RECORD }
+}
+
+// Moves processor p: action a with operand o. Accepted, the move's three bytes are the journal's next; refused, record and journal stay.
+pub fn make_move(session: Session, journal: &mut [u8], p: u8, a: u8, o: u8) -> Answer
+    ensures answer { λ r. ⌜ r ≡ moved session (now (journal .entry)) (move-of p a o) ⌝ }
+    ensures written { λ r. ⌜ now (journal .exit) ≡ journal-after session (now (journal .entry)) (move-of p a o) ⌝ }
+{
+    let first = lent(session, journal.len());
+    if first != 0 {
+        return Answer {
+            refusal: first,
+            session,
+        };
+    }
+    let state = session.state;
+    let initial = session.initial;
+    let made = step::moves::moved(state, p, a, o);
+    let refusal = made.refusal;
+    if refusal != 0 {
+        return Answer { refusal, session };
+    }
+    write_move(journal, state.applied, p, a, o);
+    let state = made.state;
+    Answer {
+        refusal: 0,
+        session: Session { state, initial },
+    }
+}
+
+// Steps back: the state of all the journal's standing moves but the last, replayed from the start table read off the record.
+pub fn undo(session: Session, journal: &[u8]) -> Answer
+    ensures { λ r. ⌜ r ≡ undone session (now (journal .entry)) ⌝ }
+{
+    let first = lent(session, journal.len());
+    if first != 0 {
+        return Answer {
+            refusal: first,
+            session,
+        };
+    }
+    let state = session.state;
+    let n = state.applied;
+    if n == 0 {
+        return Answer {
+            refusal: NOTHING_APPLIED,
+            session,
+        };
+    }
+    let found = before_last(session, journal, n - 1);
+    let all = found.all;
+    if all {
+        let state = found.state;
+        let initial = session.initial;
+        return Answer {
+            refusal: 0,
+            session: Session { state, initial },
+        };
+    }
+    Answer {
+        refusal: BAD_JOURNAL,
+        session,
+    }
+}
+
+// The state before the journal's last standing move, and whether the standing moves replay to the record. n is how many stand before the last.
+fn before_last(session: Session, journal: &[u8], n: u16) -> Replayed
+    requires { ⌜ (session-ok session ≡ true) × (12000 ≤ length (now journal)) × (n + 1 ≡ session .state .applied) ⌝ }
+    ensures { λ r. ⌜ BeforeLast session (now (journal .entry)) n r ⌝ }
+{
+    let state = session.state;
+    let found = replay(state.p, state.t, state.m, session.initial, journal, n);
+    let all = found.all;
+    let before = found.state;
+    if all {
+        let at = 3 * (n as usize);
+        let made = step::moves::moved(before, journal[at], journal[at + 1], journal[at + 2]);
+        if made.refusal == 0 {
+            let whole = made.state;
+            let alike = same_state(whole, state);
+            return Replayed {
+                all: alike,
+                state: before,
+            };
+        }
+        return Replayed {
+            all: false,
+            state: before,
+        };
+    }
+    Replayed {
+        all: false,
+        state: before,
+    }
+}
+
+// The journal's standing moves: its first 3n bytes where n moves stand, or its empty front with the number that refuses it.
+pub fn front<'a>(session: Session, journal: &'a [u8], refusal: &mut u8) -> &'a [u8]
+    ensures bytes { λ r. ⌜ now r ≡ front session (now (journal .entry)) ⌝ }
+    ensures number { λ r. ⌜ now (refusal .exit) ≡ lent-refusal session (length (now (journal .entry))) ⌝ }
+{
+    let first = lent(session, journal.len());
+    *refusal = first;
+    if first != 0 {
+        return &journal[..0];
+    }
+    let state = session.state;
+    let end = 3 * (state.applied as usize);
+    &journal[..end]
+}

@@ -1,0 +1,49 @@
+-- Reading the records of a part one after the other.
+-- Assumes nothing.
+use Prim.Native.Nat.{ℕ, zero, suc, _+_, _*_, _-_, _≤_}
+use mathlib.Core.Bool.{Bool, true, _&&_}
+use mathlib.Core.List.{List}
+use mathlib.Core.Logic.{_≢_}
+use mathlib.Core.Path.{_≡_, refl, ap, sym, _∙_}
+use native.Mathlib.Omega.{arith}
+use lib.ListN.{length, set, take, drop, length-drop, drop-of-length-le}
+use lib.Seq.{take-all}
+use Rattle.reference.specs.Lists.{tabulate}
+use Rattle.state.specs.Rules.{each}
+use Rattle.rules.proofs.Each.{each-none, each-next}
+use Rattle.snapshot.specs.Snapshot.{byte, one-of, from-record, first-read}
+use Rattle.snapshot.proofs.Tables.{set-row, row-more}
+
+-- a part from a start to the end is what is left after the start
+pub part-to-end : (b : List ℕ) (at : ℕ) → take (length b - at) (drop at b) ≡ drop at b
+part-to-end b at = take-all (length b - at) (drop at b) (omega (arith, length-drop at b))
+
+pub part-past : (b : List ℕ) (at : ℕ) → length b ≤ at → take (length b - length b) (drop (length b) b) ≡ drop at b
+part-past b at h = part-to-end b (length b) ∙ drop-of-length-le b {i = length b} (omega arith) ∙ sym (drop-of-length-le b h)
+
+-- the next record's bytes
+next-record : (w : ℕ) (b : List ℕ) (i : ℕ) → drop (w * i) b ≡ from-record w b (i + 1)
+next-record w b i = let e : i ≡ i + 1 - 1 = omega arith in ap (λ (k : ℕ). drop (w * k) b) e
+
+-- one record more of an array of n
+pub read-more : {A : Type 0} (f : List ℕ → A) (z : A) (w n : ℕ) (b : List ℕ) (i : ℕ) (all : List A) (x : A)
+    → all ≡ tabulate (λ j. one-of i j (f (from-record w b j)) z) 0 n → x ≡ f (drop (w * i) b)
+    → set all (i + 1) x ≡ tabulate (λ j. one-of (i + 1) j (f (from-record w b j)) z) 0 n
+read-more f z w n b i all x e h = rw (e, h, next-record w b i) (row-more (λ j. f (from-record w b j)) z n i)
+
+-- one record more passes a test
+pub test-none : (f : List ℕ → Bool) (w : ℕ) (b : List ℕ) → true ≡ each (λ j. f (from-record w b j)) 1 0
+test-none f w b = sym (each-none (λ j. f (from-record w b j)) 1)
+
+pub test-more : (f : List ℕ → Bool) (w : ℕ) (b : List ℕ) (i : ℕ) (ok x : Bool) → ok ≡ each (λ j. f (from-record w b j)) 1 i → x ≡ f (drop (w * i) b)
+    → ok && x ≡ each (λ j. f (from-record w b j)) 1 (i + 1)
+test-more f w b i ok x e h = each-next (λ j. f (from-record w b j)) i ok x e (h ∙ ap f (next-record w b i))
+
+-- the firsts: those of the mutexes, and at 0 that of the ready queue
+pub with-ready : (b : List ℕ) (ready m n : ℕ)
+    → set (tabulate (λ j. one-of m j (byte (from-record 8 b j) 1) 0) 0 n) 0 ready ≡ tabulate (first-read ready b m) 0 n
+with-ready b ready m n = set-row (λ j. one-of m j (byte (from-record 8 b j) 1) 0) (first-read ready b m) 0 n 0 ready refl same
+  where
+    same : (j : ℕ) → j ≢ 0 + 0 → one-of m j (byte (from-record 8 b j) 1) 0 ≡ first-read ready b m j
+    same zero h = absurd (h refl)
+    same (suc j) h = refl

@@ -1,0 +1,52 @@
+-- `snapshot::reader::fields` meets its contract.
+-- Assumes nothing.
+use Rattle.snapshot.specs.Model.{fields-with}
+use borrow.Author.Needs.{needs}
+use Rattle.snapshot.proofs.reader.fields.Statement.{statement}
+use Rattle.snapshot.proofs.reader.fields.Tie as tie
+
+returns : tie.Need-returns
+unfolding fields-with
+returns c =
+    let y = c .before .before .before in
+    let t = y .before .before .before in
+    let f = t .before .before .before in
+    let three = f .before in
+    let two = three .before in
+    let one = two .before in
+    let applied = rw (y .before .byte6 .ensures, y .before .before .byte5 .ensures) at (y .two .ensures) in
+    let firsts = rw (t .before .before .byte4 .ensures, f .from .ensures, three .byte3 .ensures, one .byte .ensures) at (t .before .firsts .ensures) in
+    let threads = rw (two .byte2 .ensures) at (t .threads .ensures) in
+    let processors = rw (c .before .before .from2 .ensures, one .byte .ensures) at (c .before .processors .ensures) in
+    let mutexes = rw (f .from .ensures, three .byte3 .ensures, one .byte .ensures) at (c .mutexes .ensures) in
+    (λ i. record {
+      p = one .byte .ensures i;
+      t = two .byte2 .ensures i;
+      m = three .byte3 .ensures i;
+      applied = applied i;
+      chains = record { firsts = firsts i; threads = threads i };
+      processors = processors i;
+      mutexes = mutexes i;
+    })
+
+pub fields-spec : {M : Type 1} → statement M
+fields-spec =
+    tie.close
+    (tie.spec
+    (λ c κs. search needs)
+    (λ c κs. search needs)
+    (λ c κs. search needs)
+    (λ c. search needs)
+    (λ c. search needs)
+    (λ c. search needs)
+    (λ c κs. search needs)
+    (λ c κs. search needs)
+    (λ c κs. search needs)
+    (λ c κs. search needs)
+    (λ c κs. search needs)
+    (λ c κs. search needs)
+    (λ c κs. search needs)
+    (λ c κs. search needs)
+    (λ c κs. search needs)
+    (λ c κs. search needs)
+    returns)

@@ -1,0 +1,46 @@
+-- `snapshot::reader::processors_zero` meets its contract.
+-- Assumes nothing.
+use borrow.Author.Needs.{needs}
+use Prim.Native.Nat.{_≤_, _-_}
+use mathlib.Core.Path.{_≡_}
+use native.Mathlib.Omega.{arith}
+use denote.Ref.{now}
+use Rattle.snapshot.specs.Snapshot.{processor-zeros}
+use Rattle.snapshot.specs.Model.{processors-zeros}
+use Rattle.snapshot.proofs.Parts.{test-none, test-more}
+use Rattle.snapshot.proofs.reader.processors_zero.Statement.{statement}
+use Rattle.snapshot.proofs.reader.processors_zero.Tie as tie
+
+abbrev Inv-loop : tie.InvT-loop
+Inv-loop b p ok₀ i₀ ok i = (i ≤ p) × (ok ≡ processors-zeros b i)
+
+abbrev μ-loop : tie.MeasureT-loop
+μ-loop b p ok₀ i₀ ok i = p - i
+
+loop-holds : tie.Need-loop-holds Inv-loop μ-loop
+loop-holds c = (search needs, test-none processor-zeros 12 (now (c .before .args .b)))
+
+loop-again : tie.Need-loop-again Inv-loop μ-loop
+loop-again c =
+    let l = c .before .before .before .before in
+    (search needs, test-more processor-zeros 12 (now (l .before .before .args .b)) (l .loop .i) (l .loop .ok) _ (l .loop .inv .1) (rw (c .byte2 .ensures, c .before .byte .ensures, c .before .before .from .ensures)))
+
+returns : tie.Need-returns Inv-loop μ-loop
+returns c = let e : c .before .loop .i ≡ c .before .before .before .args .p = omega arith in rw e at (c .before .loop .inv .1)
+
+pub processors-zero-spec : {M : Type 1} → statement M
+processors-zero-spec =
+    tie.close
+    (tie.spec
+    Inv-loop
+    μ-loop
+    loop-holds
+    (λ c. search needs)
+    (λ c. search needs)
+    (λ c κs. search needs)
+    (λ c. search needs)
+    (λ c κs. search needs)
+    (λ c κs. search needs)
+    (λ c. search needs)
+    loop-again
+    returns)

@@ -1,0 +1,13 @@
+-- `snapshot::reader::refused` meets its contract.
+-- Assumes nothing.
+use Rattle.snapshot.specs.Model.{refused-with}
+use borrow.Author.Needs.{needs}
+use Rattle.snapshot.proofs.reader.refused.Statement.{statement}
+use Rattle.snapshot.proofs.reader.refused.Tie as tie
+
+returns : tie.Need-returns
+unfolding refused-with
+returns c = (λ i. record { refusal = c .before .args .n; state = c .zero .ensures i })
+
+pub refused-spec : {M : Type 1} → statement M
+refused-spec = tie.close (tie.spec (λ c κs. search needs) returns)

@@ -1,0 +1,54 @@
+// Pictures of a state: writing one into a lent buffer, reading one from bytes; and turns ahead.
+ghost use mathlib.Core.Path.{_≡_};
+ghost use lib.ListN.{length};
+ghost use Rattle.snapshot.specs.Snapshot.{write-refusal, written, read};
+ghost use Rattle.snapshot.specs.Turns.{meaning, ahead, answer};
+
+pub mod answer;
+mod reader;
+mod refusal;
+mod rule;
+mod turns;
+mod writer;
+
+use answer::Ahead;
+use answer::Read;
+use state::State;
+
+// The picture of a state into the buffer's front, its later bytes kept: 15, then 10, else 0.
+pub fn write(s: State, buffer: &mut [u8]) -> u8
+    ensures { λ r. ⌜ (r ≡ write-refusal s (length (now (buffer .entry)))) × (now (buffer .exit) ≡ written s (now (buffer .entry))) ⌝ }
+{
+    let ok = rules::state_ok(s);
+    if !ok {
+        return refusal::BAD_RECORD;
+    }
+    writer::put(buffer, s)
+}
+
+// The state that the bytes show: under 8 bytes 11, sizes 12, full length 11, then 12, 13, 14, else 0.
+pub fn read(bytes: &[u8]) -> Read
+    ensures { λ r. ⌜ r ≡ read (now (bytes .entry)) ⌝ }
+{
+    let shape = reader::shape_refusal(bytes);
+    if shape != 0 {
+        return reader::refused(shape);
+    }
+    let at = reader::threads_at(reader::byte(bytes, 0), reader::byte(bytes, 2));
+    reader::read_parts(bytes, &bytes[at..])
+}
+
+// The threads before a thread in its mutex's queue, plus one if the mutex has an owner: 15, then 3.
+pub fn ahead(s: State, thread: u8) -> Ahead
+    ensures { λ r. ⌜ (r ≡ ahead s thread) × (meaning r ≡ answer s thread) ⌝ }
+{
+    let ok = rules::state_ok(s);
+    if !ok {
+        return Ahead::Refused(refusal::BAD_RECORD);
+    }
+    let there = (1 <= thread) & (thread <= s.t);
+    if !there {
+        return Ahead::Refused(refusal::BAD_OPERAND);
+    }
+    turns::turns_ahead(s, thread)
+}

@@ -1,0 +1,36 @@
+// The rules 12 to 14 of a picture that has the right length and sizes.
+ghost use mathlib.Core.Path.{_≡_};
+ghost use Rattle.snapshot.specs.Model.{first-broken, rule-refusal};
+use crate::reader;
+use crate::refusal::BAD_CHAIN;
+use crate::refusal::BAD_FIELD;
+use crate::refusal::BAD_HOLDER;
+use state::State;
+
+// The first rule that is broken: 12, 13, 14, or 0.
+pub(crate) fn first_broken(fields: bool, chained: bool, held: bool) -> u8
+    ensures { λ r. ⌜ r ≡ first-broken fields chained held ⌝ }
+{
+    if !fields {
+        return BAD_FIELD;
+    }
+    if !chained {
+        return BAD_CHAIN;
+    }
+    if !held {
+        return BAD_HOLDER;
+    }
+    0
+}
+
+// The rules, of the record of a picture's bytes, whose thread records begin at part.
+pub(crate) fn rule_refusal<'a>(b: &'a [u8], part: &'a [u8], s: State) -> u8
+    ensures { λ r. ⌜ r ≡ rule-refusal (now (b .entry)) (now (part .entry)) s ⌝ }
+{
+    let chains = s.chains;
+    let firsts = chains.firsts;
+    let fields = reader::zeros(b, part) & rules::field::fields_ok(s);
+    let chained = rules::chain::chains_ok(part, firsts, s.m, s.t);
+    let held = rules::holder::holders_ok(s);
+    first_broken(fields, chained, held)
+}
