@@ -1,0 +1,39 @@
+//! Writes the test vectors into the folder given as argument.
+
+mod calls;
+mod pictures;
+mod sessions;
+mod states;
+mod turns;
+
+use std::path::{Path, PathBuf};
+use std::{env, fs, io};
+
+/// A folder under the vectors' root.
+pub struct Folder {
+    path: PathBuf,
+}
+
+impl Folder {
+    fn new(root: &Path, name: &str) -> io::Result<Folder> {
+        let path = root.join(name);
+        fs::create_dir_all(&path)?;
+        Ok(Folder { path })
+    }
+
+    pub fn write(&self, name: &str, content: &[u8]) -> io::Result<()> {
+        fs::write(self.path.join(name), content)
+    }
+}
+
+fn main() -> io::Result<()> {
+    let Some(root) = env::args_os().nth(1) else {
+        eprintln!("usage: vectors FOLDER");
+        std::process::exit(2);
+    };
+    let root = Path::new(&root);
+    pictures::write_all(&Folder::new(root, "pictures")?)?;
+    sessions::write_all(&Folder::new(root, "sessions")?)?;
+    turns::write_all(&Folder::new(root, "turns")?)?;
+    calls::write_all(&Folder::new(root, "calls")?)
+}

@@ -1,0 +1,490 @@
+//! Scripts for the line program with the output it must give.
+
+use crate::Folder;
+use independent::machine::{Config, State};
+use independent::program;
+use independent::random::{is_stuck, Call, Driver, Generator, Rates};
+use independent::worked::{self, Worked};
+use std::io;
+
+/// Joins lines, each ended by a line feed.
+fn script<T: AsRef<[u8]>>(lines: &[T]) -> Vec<u8> {
+    let mut bytes = Vec::new();
+    for line in lines {
+        bytes.extend(line.as_ref());
+        bytes.push(b'\n');
+    }
+    bytes
+}
+
+fn start_line(config: Config) -> String {
+    let Config { processors, threads, mutexes, born } = config;
+    format!("start {processors} {threads} {mutexes} {born}")
+}
+
+fn move_line([p, a, o]: [u8; 3]) -> String {
+    format!("move {p} {a} {o}")
+}
+
+/// The session with the picture after the start and after each move, then `more`.
+fn shown(worked: &Worked, more: &[&str]) -> Vec<u8> {
+    let mut lines = vec![start_line(worked.config), "show".to_string()];
+    for &made in &worked.moves {
+        lines.extend([move_line(made), "show".to_string()]);
+    }
+    lines.extend(more.iter().map(|line| line.to_string()));
+    script(&lines)
+}
+
+fn random_session(config: Config, seed: u64, calls: usize, show_each: usize) -> Vec<u8> {
+    let mut driver = Driver::new(seed, Rates { refused: 8, undo: 30 });
+    let mut states = vec![State::start(config)];
+    let mut lines = vec![start_line(config)];
+    for call in 1..=calls {
+        let state = &states[states.len() - 1];
+        match driver.next_call(state) {
+            Call::Move(made) => {
+                let mut next = state.clone();
+                if next.try_move(made).is_ok() {
+                    states.push(next);
+                }
+                lines.push(move_line(made));
+            }
+            Call::Undo => {
+                if states.len() > 1 {
+                    states.pop();
+                }
+                lines.push("back".to_string());
+            }
+        }
+        if call % show_each == 0 {
+            lines.push("show".to_string());
+        }
+    }
+    lines.push("show".to_string());
+    script(&lines)
+}
+
+/// 4,000 accepted moves in which the machine never gets stuck, from the first seed that has them.
+fn busy_moves(config: Config) -> Vec<[u8; 3]> {
+    let busy = |seed| {
+        let mut driver = Driver::new(seed, Rates::ACCEPTED);
+        let mut state = State::start(config);
+        let mut moves = Vec::new();
+        while moves.len() < 4_000 {
+            let made = driver.likely_move(&state);
+            state.try_move(made).expect("an accepted move");
+            moves.push(made);
+            if is_stuck(&state) {
+                return None;
+            }
+        }
+        Some(moves)
+    };
+    (0..).find_map(busy).expect("a busy session")
+}
+
+/// 4,000 accepted moves, refusals at the end, steps back and moves again.
+fn most_moves() -> Vec<u8> {
+    let config = Config::new(3, 6, 2, 4);
+    let moves = busy_moves(config);
+    let mut lines = vec![start_line(config)];
+    for (count, &made) in (1..).zip(&moves) {
+        lines.push(move_line(made));
+        if count % 400 == 0 {
+            lines.push("show".to_string());
+        }
+    }
+    // The 4,001st: 2 and 3 come first, then 8 whatever the position.
+    let mut add = |line: &str| lines.push(line.to_string());
+    for p in 1..=3 {
+        add(&move_line([p, 0, 0]));
+        add(&move_line([p, 1, 1]));
+        add(&move_line([p, 3, 1]));
+        add(&move_line([p, 6, 1]));
+        add(&move_line([p, 7, 0]));
+        add(&move_line([p, 0, 1]));
+    }
+    for line in ["move 0 0 0", "move 4 0 0", "show"] {
+        add(line);
+    }
+    for _ in 0..8 {
+        add("back");
+        add("show");
+    }
+    for &made in &moves[3_992..] {
+        add(&move_line(made));
+    }
+    add("show");
+    add(&move_line(moves[3_999]));
+    add("back");
+    add(&move_line(moves[3_999]));
+    add("move 1 0 0");
+    add("show");
+    script(&lines)
+}
+
+fn refusals() -> Vec<u8> {
+    script(&[
+        // 1
+        "start 0 1 1 1",
+        "start 1 0 1 1",
+        "start 1 1 0 1",
+        "start 1 1 1 0",
+        "start 9 32 8 32",
+        "start 8 33 8 32",
+        "start 8 32 9 32",
+        "start 8 32 8 33",
+        "start 1 1 1 2",
+        "start 255 255 255 255",
+        "start 0 0 0 0",
+        "start 8 31 8 32",
+        // A start; 9
+        "start 2 3 2 2",
+        "back",
+        // 2, also before 3
+        "move 0 0 0",
+        "move 3 0 0",
+        "move 255 0 0",
+        "move 0 7 9",
+        "move 3 7 9",
+        // 3, also before 5
+        "move 1 7 0",
+        "move 1 255 0",
+        "move 1 0 1",
+        "move 1 4 1",
+        "move 1 5 1",
+        "move 1 1 0",
+        "move 1 1 3",
+        "move 1 2 0",
+        "move 1 2 3",
+        "move 1 3 0",
+        "move 1 3 3",
+        "move 1 6 0",
+        "move 1 6 4",
+        "move 1 6 255",
+        // 5, 6, 7
+        "move 1 0 0",
+        "move 2 0 0",
+        "move 1 3 1",
+        "move 1 3 2",
+        "move 1 6 1",
+        "move 1 6 2",
+        "show",
+        // Create, then 4 for every call, 3 before 4, 7 once created
+        "move 1 6 3",
+        "show",
+        "move 1 1 1",
+        "move 1 2 1",
+        "move 1 3 1",
+        "move 1 4 0",
+        "move 1 5 0",
+        "move 1 6 3",
+        "move 1 6 0",
+        "move 1 1 3",
+        "move 1 7 0",
+        "move 1 0 1",
+        "move 2 6 3",
+        "move 1 0 0",
+        "show",
+        "move 1 6 3",
+        // Owner 1; strangers get 6
+        "move 1 1 1",
+        "move 1 0 0",
+        "move 2 3 1",
+        "move 1 3 2",
+        "show",
+        // The owner exits and still owns; another thread runs and gets 6; the ended one gets 7
+        "move 1 5 0",
+        "move 1 0 0",
+        "move 1 0 0",
+        "show",
+        "move 1 3 1",
+        "move 1 6 1",
+        // Back to the start and once more
+        "back",
+        "back",
+        "back",
+        "back",
+        "back",
+        "back",
+        "back",
+        "show",
+        "back",
+        "show",
+    ])
+}
+
+/// Lines that are no command, between commands.
+fn odd_lines() -> Vec<u8> {
+    let odd = [
+        "",
+        " ",
+        "  ",
+        "show ",
+        " show",
+        "show show",
+        "show\r",
+        "SHOW",
+        "Show",
+        "sho",
+        "showx",
+        "show 1",
+        "?",
+        "0",
+        "back ",
+        " back",
+        "back 1",
+        "backs",
+        "bac",
+        "BACK",
+        "move",
+        "move ",
+        "move 1",
+        "move 1 0",
+        "move 1 0 ",
+        "move 1 0 0 ",
+        " move 1 0 0",
+        "move  1 0 0",
+        "move 1  0 0",
+        "move 1 0  0",
+        "move 1 0 0 0",
+        "move 01 0 0",
+        "move 1 00 0",
+        "move 1 0 00",
+        "move 001 0 0",
+        "move 1 1 01",
+        "move 256 0 0",
+        "move 1 256 0",
+        "move 1 0 256",
+        "move 257 1 1",
+        "move 1 257 1",
+        "move 1 1 257",
+        "move 999 0 0",
+        "move 1000 0 0",
+        "move 65537 1 1",
+        "move 4294967297 1 1",
+        "move 18446744073709551617 1 1",
+        "move -1 0 0",
+        "move +1 1 1",
+        "move 1 1 +1",
+        "move 1 1 1.",
+        "move 1 1 0x1",
+        "move 1 1 1a",
+        "move a b c",
+        "move 1,1,1",
+        "move 1\t1\t1",
+        "move\t1 1 1",
+        "moves 1 1 1",
+        "Move 1 1 1",
+        "start",
+        "start ",
+        "start 1",
+        "start 1 1 1",
+        "start 1 1 1 ",
+        "start 1 1 1 1 ",
+        "start 1 1 1 1 1",
+        " start 1 1 1 1",
+        "start  1 1 1 1",
+        "start 1 1  1 1",
+        "start 01 1 1 1",
+        "start 1 1 1 01",
+        "start 00 1 1 1",
+        "start 256 1 1 1",
+        "start 257 1 1 1",
+        "start 1 257 1 1",
+        "start 1 1 1 257",
+        "start 1 1 1 300",
+        "start 4294967297 1 1 1",
+        "start -1 1 1 1",
+        "START 1 1 1 1",
+        "starts 1 1 1 1",
+        "start 1 1 1 1\r",
+        "start1 1 1 1",
+        "stop",
+        "goto 1",
+        "start 1 1 1 1 0",
+    ];
+    let mut lines = odd.map(str::to_string).to_vec();
+    lines.extend(["start 2 2 2 2".to_string(), "move 1 1 1".to_string(), "show".to_string()]);
+    lines.extend(odd.map(str::to_string));
+    lines.extend(["show", "move 255 255 255", "move 1 0 0", "back", "show"].map(str::to_string));
+    script(&lines)
+}
+
+fn long_lines() -> Vec<u8> {
+    let mut lines: Vec<Vec<u8>> = vec![b"start 1 1 1 1".to_vec(), b"show".to_vec()];
+    for length in [59, 60, 61, 63, 64, 65, 66, 127, 128, 129, 130, 255, 256, 257] {
+        for tail in ["", "show", "back", "move 1 1 1", "start 2 2 2 2"] {
+            // After the filler, and before it.
+            lines.push([&vec![b'x'; length][..], tail.as_bytes()].concat());
+            lines.push([tail.as_bytes(), &vec![b' '; length][..]].concat());
+        }
+        lines.push(b"show".to_vec());
+    }
+    for length in [1_000, 4_092, 4_095, 4_096, 4_097, 8_192, 10_000] {
+        lines.push([&vec![b'x'; length][..], b"move 1 1 1"].concat());
+        lines.push(b"show".to_vec());
+    }
+    // Commands in parts of 64 and 65 bytes.
+    for part in [64, 65] {
+        let mut line = Vec::new();
+        for _ in 0..3 {
+            let mut piece = b"move 1 1 1".to_vec();
+            piece.resize(part, b' ');
+            line.extend(piece);
+        }
+        lines.push(line);
+    }
+    lines.push(b"move 1 1 1".to_vec());
+    lines.push(b"show".to_vec());
+    script(&lines)
+}
+
+fn any_bytes() -> Vec<u8> {
+    let mut lines: Vec<Vec<u8>> = vec![b"start 1 1 1 1".to_vec()];
+    for byte in (0..=255u8).filter(|&byte| byte != b'\n') {
+        lines.push(vec![byte]);
+        lines.push([b"show", &[byte][..]].concat());
+        lines.push([&[byte][..], b"show"].concat());
+        lines.push([b"move 1 1 ", &[byte][..]].concat());
+        lines.push([b"move", &[byte][..], b"9 1 1"].concat());
+        lines.push([b"start 1 1 1 1", &[byte][..]].concat());
+    }
+    lines.push(b"sh\0ow".to_vec());
+    lines.push(b"\0\0\0\0".to_vec());
+    lines.push(b"move 1 1 \xb1".to_vec());
+    lines.push(b"sh\xc3\xb6w".to_vec());
+    lines.push(vec![0; 65]);
+    lines.push(vec![255; 65]);
+    lines.push(b"show".to_vec());
+    script(&lines)
+}
+
+/// A line of every length from 0 to 70, random bytes of the commands' letters.
+fn noise() -> Vec<u8> {
+    let mut generator = Generator::new(9);
+    let letters = b"showbackmovestart 0123456789  112";
+    let mut lines: Vec<Vec<u8>> = vec![b"start 3 4 2 4".to_vec()];
+    for length in (0..=70).chain(0..=24) {
+        lines.push((0..length).map(|_| generator.pick(letters)).collect());
+    }
+    lines.push(b"show".to_vec());
+    script(&lines)
+}
+
+/// Each of the first n moves, then all of them back and one more.
+fn there_and_back(worked: &Worked) -> Vec<u8> {
+    let mut lines = vec![start_line(worked.config)];
+    lines.extend(worked.moves.iter().map(|&made| move_line(made)));
+    for _ in 0..=worked.moves.len() {
+        lines.extend(["show".to_string(), "back".to_string()]);
+    }
+    lines.push("show".to_string());
+    script(&lines)
+}
+
+/// Whole inputs that are not just ended lines.
+fn endings() -> Vec<(&'static str, Vec<u8>)> {
+    let long = [b'x'; 100];
+    vec![
+        ("end-empty", Vec::new()),
+        ("end-line-feed", b"\n".to_vec()),
+        ("end-line-feeds", b"\n\n\n".to_vec()),
+        ("end-show", b"start 1 1 1 1\nshow".to_vec()),
+        ("end-start", b"start 1 1 1 1".to_vec()),
+        ("end-refused", b"start 1 1 1 1\nmove 2 0 0".to_vec()),
+        ("end-other", b"start 1 1 1 1\nsho".to_vec()),
+        ("end-space", b"start 1 1 1 1\n ".to_vec()),
+        ("end-return", b"start 1 1 1 1\nshow\r".to_vec()),
+        ("end-nul", b"start 1 1 1 1\n\0".to_vec()),
+        ("end-long", [b"start 1 1 1 1\n", &long[..]].concat()),
+        ("end-long-show", [b"start 1 1 1 1\n", &long[..], b"show"].concat()),
+        ("end-64", [b"start 1 1 1 1\n", &long[..64]].concat()),
+        ("end-65", [b"start 1 1 1 1\n", &long[..65]].concat()),
+        ("end-line-feed-after-long", [b"start 1 1 1 1\n", &long[..], b"\n"].concat()),
+    ]
+}
+
+fn fixed() -> Vec<(&'static str, Vec<u8>)> {
+    let stranger = Worked::new(Config::new(2, 2, 1, 2)).call(1, 1, 1).go(1, 1);
+    vec![
+        ("example", script(&["start 1 1 1 1", "show"])),
+        ("k1", script(&["start 8 32 8 32", "show"])),
+        ("k2", script(&["start 9 32 8 32", "show"])),
+        ("k3", script(&["start 8 32 8 0", "show"])),
+        ("k4", shown(&worked::k4(), &[])),
+        ("k5", shown(&worked::k5(), &[])),
+        ("k6", shown(&worked::k6(), &[])),
+        ("k7", shown(&worked::k7(), &[])),
+        ("k8-by-moves", shown(&worked::k8(), &[])),
+        ("k9", shown(&stranger, &["move 2 3 1", "show"])),
+        (
+            "before-start",
+            script(&[
+                "show",
+                "back",
+                "move 1 0 0",
+                "move 0 0 0",
+                "start 0 1 1 1",
+                "show",
+                "back",
+                "start 1 1 1",
+                "move 1 1 1",
+                "start 1 1 1 1",
+                "show",
+                "back",
+            ]),
+        ),
+        (
+            "start-again",
+            script(&[
+                "start 1 2 1 2",
+                "move 1 4 0",
+                "move 1 0 0",
+                "show",
+                "start 9 1 1 1",
+                "show",
+                "start 1 1 1 2",
+                "move 1 0 0",
+                "show",
+                "start 2 2 2 1",
+                "show",
+                "back",
+                "move 2 0 0",
+                "show",
+                "back",
+                "show",
+                "back",
+            ]),
+        ),
+        ("refusals", refusals()),
+        ("odd-lines", odd_lines()),
+        ("long-lines", long_lines()),
+        ("any-bytes", any_bytes()),
+        ("noise", noise()),
+        ("back-k7", there_and_back(&worked::k7())),
+        ("back-k8", there_and_back(&worked::k8())),
+        ("most-moves", most_moves()),
+    ]
+}
+
+pub fn write_all(folder: &Folder) -> io::Result<()> {
+    let mut all: Vec<(String, Vec<u8>)> = Vec::new();
+    all.extend(fixed().into_iter().chain(endings()).map(|(name, input)| (name.into(), input)));
+    let mut generator = Generator::new(4);
+    for seed in 1..=24 {
+        let config = generator.config();
+        all.push((format!("random-{seed:02}"), random_session(config, seed, 300, 5)));
+    }
+    let few = [(3, 3, 1), (4, 4, 1), (4, 4, 2), (5, 6, 1)];
+    for (seed, (p, t, m)) in (1..).zip(few) {
+        let input = random_session(Config::new(p, t, m, t), seed, 700, 10);
+        all.push((format!("contention-{seed}"), input));
+    }
+    for (name, input) in all {
+        folder.write(&format!("{name}.in"), &input)?;
+        folder.write(&format!("{name}.out"), program::run(&input).as_bytes())?;
+    }
+    Ok(())
+}

@@ -1,0 +1,66 @@
+//! The named states that pictures and turns are given for.
+
+use independent::machine::{Config, State};
+use independent::random::{Driver, Rates};
+use independent::record::Snapshot;
+use independent::worked::{self, Worked};
+
+pub struct Named {
+    pub name: &'static str,
+    pub snapshot: Snapshot,
+}
+
+/// The worked session with its last `less` moves left out.
+fn earlier(worked: &Worked, less: usize) -> Snapshot {
+    worked.front(worked.moves.len() - less).snapshot()
+}
+
+/// A state of a random session of accepted moves: the first from `least` moves on in which
+/// at least `waiting` threads wait, two are ready and a processor has observed a token.
+/// Seeds are tried one after the other.
+fn deep(config: Config, seed: u64, least: u16, waiting: usize) -> Snapshot {
+    (seed..).find_map(|seed| deep_from(config, seed, least, waiting)).expect("a deep state")
+}
+
+fn deep_from(config: Config, seed: u64, least: u16, waiting: usize) -> Option<Snapshot> {
+    let mut driver = Driver::new(seed, Rates::ACCEPTED);
+    let mut state = State::start(config);
+    loop {
+        state.try_move(driver.likely_move(&state)).ok()?;
+        let queued: usize = state.mutexes.iter().map(|mutex| mutex.queue.len()).sum();
+        let observed = state.processors.iter().any(|here| here.observed.processor != 0);
+        if state.applied >= least && queued >= waiting && state.ready.len() >= 2 && observed {
+            return Some(Snapshot::of(&state));
+        }
+    }
+}
+
+pub fn all() -> Vec<Named> {
+    let start = |p, t, m, b| Worked::new(Config::new(p, t, m, b)).snapshot();
+    let (k4, k5, k6, k7, k8) =
+        (worked::k4(), worked::k5(), worked::k6(), worked::k7(), worked::k8());
+    let list = [
+        ("start-1-1-1-1", start(1, 1, 1, 1)),
+        ("start-2-5-2-4", start(2, 5, 2, 4)),
+        ("start-8-32-8-32", start(8, 32, 8, 32)),
+        ("start-8-32-8-1", start(8, 32, 8, 1)),
+        ("k4-end", earlier(&k4, 0)),
+        ("s-end", worked::session_s(2).snapshot()),
+        ("k5-l8", earlier(&k5, 3)),
+        ("k5-l10", earlier(&k5, 1)),
+        ("k5-end", earlier(&k5, 0)),
+        ("k6-h8", earlier(&k6, 4)),
+        ("k6-h3", earlier(&k6, 2)),
+        ("k6-end", earlier(&k6, 0)),
+        ("k7-h8", earlier(&k7, 6)),
+        ("k7-gt3", earlier(&k7, 3)),
+        ("k7-tl3", earlier(&k7, 1)),
+        ("k7-end", earlier(&k7, 0)),
+        ("k8-l8", earlier(&k8, 1)),
+        ("deep-3-7-2", deep(Config::new(3, 7, 2, 7), 11, 150, 2)),
+        ("deep-8-32-8-a", deep(Config::new(8, 32, 8, 20), 1, 1_200, 7)),
+        ("deep-8-32-8-b", deep(Config::new(8, 32, 8, 32), 100, 3_000, 5)),
+        ("deep-8-32-1", deep(Config::new(8, 32, 1, 32), 200, 300, 3)),
+    ];
+    list.into_iter().map(|(name, snapshot)| Named { name, snapshot }).collect()
+}

@@ -1,0 +1,45 @@
+//! An independent implementation of the hand-off machine of document 01.
+//!
+//! Terms of document 01 and the names used here: loaded is `current`, hand is
+//! `transit`, rank is `sequence`, seen is `observed`, standing moves are
+//! `applied`, step back is `undo`, turns ahead is `ahead`. A picture is the
+//! byte form of a `Snapshot`, which is the state as fixed tables with chains.
+//!
+//! - `machine`: the state with plain queues, the start and the lines.
+//! - `record`: the state as tables with chains, its rules, both conversions.
+//! - `picture`: a snapshot's bytes, written and read.
+//! - `session`: the calls on a session record and a lent journal.
+//! - `plain`: the plain session, ownership by history and the laws.
+//! - `program`: the line program.
+//! - `random`: random sessions from a seed.
+//! - `worked`: the worked sessions of document 01.
+
+pub mod machine;
+pub mod picture;
+pub mod plain;
+pub mod program;
+pub mod random;
+pub mod record;
+pub mod session;
+pub mod worked;
+
+/// A value with the number of its refusal, 0 when accepted.
+#[derive(Clone, Copy, PartialEq, Eq, Debug)]
+pub struct Answer<T> {
+    pub number: u8,
+    pub value: T,
+}
+
+impl<T> Answer<T> {
+    pub fn accepted(value: T) -> Self {
+        Answer { number: 0, value }
+    }
+
+    pub fn refused(number: u8, value: T) -> Self {
+        Answer { number, value }
+    }
+
+    pub fn is_accepted(&self) -> bool {
+        self.number == 0
+    }
+}

@@ -1,0 +1,148 @@
+//! The worked sessions of document 01 as start tables and lists of moves.
+
+use crate::machine::{Config, Move, Position, State, GO, LOCK, TRYLOCK, UNLOCK, YIELD};
+use crate::picture;
+use crate::record::{Record, Snapshot, ThreadRow, ENDED};
+
+/// A start table and moves that are all accepted.
+#[derive(Clone, PartialEq, Eq, Debug)]
+pub struct Worked {
+    pub config: Config,
+    pub moves: Vec<Move>,
+}
+
+impl Worked {
+    pub fn new(config: Config) -> Worked {
+        Worked { config, moves: Vec::new() }
+    }
+
+    pub fn call(mut self, p: u8, action: u8, operand: u8) -> Worked {
+        self.moves.push([p, action, operand]);
+        self
+    }
+
+    pub fn go(mut self, p: u8, times: usize) -> Worked {
+        self.moves.extend(vec![[p, GO, 0]; times]);
+        self
+    }
+
+    /// The session's first `count` moves.
+    pub fn front(&self, count: usize) -> Worked {
+        Worked { config: self.config, moves: self.moves[..count].to_vec() }
+    }
+
+    pub fn state(&self) -> State {
+        let mut state = State::start(self.config);
+        for &made in &self.moves {
+            state.try_move(made).expect("worked moves are accepted");
+        }
+        state
+    }
+
+    pub fn snapshot(&self) -> Snapshot {
+        Snapshot::of(&self.state())
+    }
+
+    pub fn picture(&self) -> Vec<u8> {
+        picture::raw_bytes(&self.snapshot())
+    }
+}
+
+/// One thread waits for itself.
+pub fn k4() -> Worked {
+    Worked::new(Config::new(1, 1, 1, 1)).call(1, LOCK, 1).go(1, 1).call(1, LOCK, 1).go(1, 5)
+}
+
+/// Session S with n processors and threads: token (1,1), count 1, processor 1 at H6, 2 at L3.
+pub fn session_s(n: u8) -> Worked {
+    Worked::new(Config::new(n, n, 1, n))
+        .call(1, LOCK, 1)
+        .call(2, LOCK, 1)
+        .go(1, 1)
+        .go(2, 1)
+        .call(1, UNLOCK, 1)
+        .go(1, 3)
+}
+
+/// Processor 1 leaves at H6; processor 2 wins the token and runs thread 2.
+pub fn k5() -> Worked {
+    session_s(2).go(1, 1).go(2, 7)
+}
+
+/// Processor 1 takes its token back and makes thread 2 ready.
+pub fn k6() -> Worked {
+    session_s(2).go(2, 2).go(1, 4).go(2, 1)
+}
+
+/// A trylock takes the token first.
+pub fn k7() -> Worked {
+    session_s(3).go(2, 2).go(1, 1).call(3, TRYLOCK, 1).go(3, 3).go(1, 1).go(3, 1)
+}
+
+/// K8 reached by moves: processor 2 is at L8 with (1,1) observed while the token is (1,2)
+/// and the queue is empty; its last move leads to CI2.
+pub fn k8() -> Worked {
+    session_s(4)
+        .go(1, 1)
+        // Processor 2 queues thread 2 and observes (1,1).
+        .go(2, 4)
+        // Thread 3 takes the token, unlocks and makes thread 2 ready.
+        .call(3, TRYLOCK, 1)
+        .go(3, 4)
+        .call(3, UNLOCK, 1)
+        .go(3, 3)
+        // Processor 3 runs thread 2.
+        .call(3, YIELD, 0)
+        .go(3, 5)
+        // Thread 4 is about to queue; thread 2 unlocks, thread 1 takes its token and unlocks.
+        .call(4, LOCK, 1)
+        .go(4, 1)
+        .call(3, UNLOCK, 1)
+        .go(3, 4)
+        .call(1, TRYLOCK, 1)
+        .go(1, 4)
+        .call(1, UNLOCK, 1)
+        .go(1, 4)
+        .go(2, 1)
+}
+
+/// K8 as a record: processor 2 at L8 with (1,1) observed, token (1,2), thread 2 queued.
+pub fn k8_record() -> Record {
+    let mut snapshot = session_s(2).go(1, 1).go(2, 4).snapshot();
+    snapshot.mutex_rows[0].token.sequence = 2;
+    Record { snapshot, born: 2 }
+}
+
+/// A start with processor 2 at CI2, said to have `applied` moves.
+pub fn k10_record(applied: u16) -> Record {
+    let mut snapshot = Worked::new(Config::new(2, 1, 1, 1)).snapshot();
+    snapshot.applied = applied;
+    Record { snapshot, born: 1 }
+}
+
+/// Records with a line that would leave the rules, each with its processor: L1 and TL3 at
+/// count T + 1, U1 at count 0, H5 at sequence 4,000, L9 with an empty queue.
+pub fn steps_out_of_rules() -> Vec<(&'static str, Record, u8)> {
+    let one = Worked::new(Config::new(1, 1, 1, 1));
+    let mut at_l1 = one.clone().call(1, LOCK, 1).snapshot();
+    at_l1.mutex_rows[0].count = 2;
+    let mut at_u1 = one.call(1, LOCK, 1).go(1, 1).call(1, UNLOCK, 1).snapshot();
+    at_u1.mutex_rows[0].count = 0;
+    let mut at_h5 = session_s(2).snapshot();
+    at_h5.processor_rows[0].position = Position::H5.number();
+    at_h5.processor_rows[0].sequence = 4_000;
+    let k7 = k7();
+    let mut at_tl3 = k7.front(k7.moves.len() - 1).snapshot();
+    at_tl3.mutex_rows[0].count = 4;
+    let k5 = k5();
+    let mut at_l9 = k5.front(k5.moves.len() - 2).snapshot();
+    at_l9.mutex_rows[0].first = 0;
+    at_l9.thread_rows[1] = ThreadRow { place: ENDED, holder: 0, next: 0 };
+    vec![
+        ("L1", Record { snapshot: at_l1, born: 1 }, 1),
+        ("TL3", Record { snapshot: at_tl3, born: 3 }, 3),
+        ("U1", Record { snapshot: at_u1, born: 1 }, 1),
+        ("H5", Record { snapshot: at_h5, born: 2 }, 1),
+        ("L9", Record { snapshot: at_l9, born: 2 }, 2),
+    ]
+}

@@ -1,0 +1,302 @@
+//! Laws, record calls against the plain session and picture round trips, over random sessions.
+
+use independent::machine::{Config, Position, State, Token};
+use independent::picture;
+use independent::plain::{check_laws, History, Plain};
+use independent::random::{Call, Driver, Generator, Rates};
+use independent::record::{Record, Snapshot};
+use independent::session::{self, Ahead, JOURNAL};
+use std::collections::BTreeMap;
+
+#[derive(Default)]
+struct Coverage {
+    moves: usize,
+    undos: usize,
+    refused: BTreeMap<u8, usize>,
+    branches: BTreeMap<(Position, Position), usize>,
+    /// L8 or GT3 finding a later token of the processor it observed.
+    same_processor: usize,
+}
+
+/// Runs one session both as a record with a journal and as a plain list.
+struct Sitting {
+    plain: Plain,
+    state: State,
+    history: History,
+    record: Record,
+    journal: Vec<u8>,
+}
+
+impl Sitting {
+    fn new(config: Config, generator: &mut Generator) -> Sitting {
+        let begun = session::start(config);
+        assert_eq!(begun.number, 0);
+        let filler = generator.byte();
+        Sitting {
+            plain: Plain::new(config),
+            state: State::start(config),
+            history: History::start(config),
+            record: begun.value,
+            journal: vec![filler; JOURNAL + generator.below(3)],
+        }
+    }
+
+    fn make_move(&mut self, made: [u8; 3], coverage: &mut Coverage) {
+        let answer = session::make_move(&self.record, &mut self.journal, made);
+        if let Some(number) = self.state.cause(made) {
+            assert_eq!(answer.number, number);
+            assert_eq!(answer.value, self.record);
+            assert_ne!(number, 15);
+            *coverage.refused.entry(number).or_default() += 1;
+            return;
+        }
+        assert_eq!(answer.number, 0);
+        let before = self.state.clone();
+        let here = *before.processor(made[0]);
+        self.state.try_move(made).unwrap();
+        let after = *self.state.processor(made[0]);
+        self.history.note(made, &here, &after);
+        self.plain.moves.push(made);
+        self.record = answer.value;
+        assert_eq!(self.record.snapshot, Snapshot::of(&self.state));
+        coverage.moves += 1;
+        *coverage.branches.entry((here.position, after.position)).or_default() += 1;
+        if here.position.has_observed() && here.position != Position::L7 {
+            let token = before.mutex(here.mutex).token;
+            let same = token.processor == here.observed.processor;
+            coverage.same_processor += usize::from(same && token != here.observed);
+        }
+    }
+
+    fn undo(&mut self, coverage: &mut Coverage) {
+        let answer = session::undo(&self.record, &self.journal);
+        assert_eq!(answer.number, self.plain.undo());
+        if answer.number == 9 {
+            assert_eq!(answer.value, self.record);
+            *coverage.refused.entry(9).or_default() += 1;
+            return;
+        }
+        (self.state, self.history) = self.plain.work_out();
+        self.record = answer.value;
+        assert_eq!(self.record.snapshot, Snapshot::of(&self.state));
+        coverage.undos += 1;
+    }
+
+    fn check(&self) {
+        check_laws(&self.state, &self.history, self.plain.config).unwrap();
+        check_counts(&self.state);
+        assert_eq!(self.record.snapshot.broken_rule(), None);
+        assert_eq!(self.record.born, self.plain.config.born);
+        assert_eq!(self.record.state().as_ref(), Some(&self.state));
+    }
+
+    fn check_journal(&self) {
+        let front = session::front(&self.record, &self.journal);
+        assert_eq!(front.number, 0);
+        assert_eq!(front.value, self.plain.moves.concat());
+        assert_eq!((self.state.clone(), self.history.clone()), self.plain.work_out());
+    }
+}
+
+/// Lemmas of the report: what the count counts; a token only without an owner, with a count.
+fn check_counts(state: &State) {
+    use Position::*;
+    for (m, mutex) in (1..).zip(&state.mutexes) {
+        let on = |list: &[Position]| {
+            let at = |here: &&independent::machine::Processor| {
+                here.mutex == m && list.contains(&here.position)
+            };
+            state.processors.iter().filter(at).count()
+        };
+        // Owner counted, except between GT3 and TL3, when it counts at TL3 only.
+        let owner = usize::from(mutex.owner != 0);
+        let wanting = mutex.queue.len() + on(&[L3, L4]);
+        assert_eq!(usize::from(mutex.count), owner + wanting - on(&[TL3]));
+        if mutex.token != Token::NONE {
+            assert_eq!(mutex.owner, 0);
+            assert!(mutex.count > 0);
+        }
+    }
+}
+
+fn check_picture(snapshot: &Snapshot, generator: &mut Generator) {
+    let length = picture::length(snapshot.processors, snapshot.threads, snapshot.mutexes);
+    let mut buffer = vec![0xa5; length + 2];
+    assert_eq!(picture::write(snapshot, &mut buffer[..length - 1]), 10);
+    assert!(buffer.iter().all(|&byte| byte == 0xa5));
+    assert_eq!(picture::write(snapshot, &mut buffer), 0);
+    assert_eq!(buffer[length..], [0xa5, 0xa5]);
+    buffer.truncate(length);
+    assert_eq!(picture::read(&buffer).number, 0);
+    assert_eq!(picture::read(&buffer).value, *snapshot);
+    // What reads is what would be written.
+    for _ in 0..8 {
+        let mut damaged = buffer.clone();
+        for _ in 0..=generator.below(3) {
+            let at = generator.below(length);
+            damaged[at] =
+                if generator.once_in(2) { generator.byte() % 6 } else { generator.byte() };
+        }
+        let read = picture::read(&damaged);
+        if read.number == 0 {
+            let mut again = vec![0; damaged.len()];
+            assert_eq!(picture::write(&read.value, &mut again), 0);
+            assert_eq!(again, damaged);
+            assert_eq!(Snapshot::of(&read.value.state().unwrap()), read.value);
+        } else {
+            assert!((11..=14).contains(&read.number));
+            assert_eq!(read.value, Snapshot::default());
+        }
+    }
+}
+
+fn check_ahead(state: &State, snapshot: &Snapshot) {
+    assert_eq!(session::ahead(snapshot, 0), Ahead::Refused(3));
+    assert_eq!(session::ahead(snapshot, state.thread_count() + 1), Ahead::Refused(3));
+    for thread in 1..=state.thread_count() {
+        let mut expected = Ahead::NotWaiting;
+        for mutex in &state.mutexes {
+            for (before, &waiting) in (0..).zip(&mutex.queue) {
+                if waiting == thread {
+                    expected = Ahead::Waits(before + u8::from(mutex.owner != 0));
+                }
+            }
+        }
+        assert_eq!(session::ahead(snapshot, thread), expected);
+    }
+}
+
+/// A session of at most `calls` calls.
+fn sit(config: Config, seed: u64, calls: usize, rates: Rates, coverage: &mut Coverage) {
+    let mut driver = Driver::new(seed, rates);
+    let mut sitting = Sitting::new(config, &mut driver.generator);
+    sitting.check();
+    for call in 0..calls {
+        match driver.next_call(&sitting.state) {
+            Call::Move(made) => sitting.make_move(made, coverage),
+            Call::Undo => sitting.undo(coverage),
+        }
+        sitting.check();
+        if call % 16 == 0 {
+            check_picture(&sitting.record.snapshot, &mut driver.generator);
+            check_ahead(&sitting.state, &sitting.record.snapshot);
+        }
+    }
+    sitting.check_journal();
+}
+
+#[test]
+fn laws_over_random_sessions() {
+    let mut coverage = Coverage::default();
+    let mut generator = Generator::new(1);
+    let mut seed = 0;
+    while coverage.moves < 300_000 {
+        let config = generator.config();
+        // Some sessions reach the most moves.
+        let (calls, rates) = match generator.below(40) {
+            0 => (4_500, Rates { refused: 20, undo: 2_000 }),
+            _ => (50 + generator.below(900), Rates::USUAL),
+        };
+        seed += 1;
+        sit(config, seed, calls, rates, &mut coverage);
+    }
+    println!("{} sessions, {} moves, {} undos", seed, coverage.moves, coverage.undos);
+    println!("refused {:?}", coverage.refused);
+    println!("branches {:?}", coverage.branches);
+    println!("later tokens of one processor {}", coverage.same_processor);
+    for number in [2, 3, 4, 5, 6, 7, 8, 9] {
+        assert!(coverage.refused.contains_key(&number), "refusal {number} not met");
+    }
+    use Position::*;
+    let branches = [
+        (App, L1),
+        (App, TL1),
+        (App, U1),
+        (App, Y1),
+        (App, CI2),
+        (App, C2),
+        (CI2, CI2),
+        (CI2, CI3),
+        (CI3, App),
+        (L1, App),
+        (L1, L3),
+        (L3, L4),
+        (L4, L6),
+        (L6, CI2),
+        (L6, L7),
+        (L7, CI2),
+        (L7, L8),
+        (L8, L9),
+        (L8, CI2),
+        (L9, L10),
+        (L10, App),
+        (TL1, App),
+        (TL1, GT1),
+        (GT1, App),
+        (GT1, GT3),
+        (GT3, TL3),
+        (GT3, App),
+        (TL3, App),
+        (U1, App),
+        (U1, H2),
+        (H2, H3),
+        (H2, H5),
+        (H3, App),
+        (H5, H6),
+        (H6, App),
+        (H6, H8),
+        (H8, H2),
+        (H8, App),
+        (Y1, App),
+        (Y1, Y2),
+        (Y2, Y3),
+        (Y3, CI2),
+        (C2, App),
+    ];
+    for branch in branches {
+        assert!(coverage.branches.contains_key(&branch), "branch {branch:?} not met");
+    }
+    assert_eq!(coverage.branches.len(), branches.len());
+    assert!(coverage.same_processor > 0);
+}
+
+#[test]
+fn all_sizes() {
+    let mut coverage = Coverage::default();
+    for p in 1..=8 {
+        for t in 1..=32 {
+            for m in 1..=8 {
+                let born = 1 + (p * 7 + t * 3 + m) % t;
+                let seed = u64::from(p) * 1_000_000 + u64::from(t) * 1_000 + u64::from(m);
+                sit(Config::new(p, t, m, born), seed, 24, Rates::USUAL, &mut coverage);
+            }
+        }
+    }
+}
+
+/// The plain session, worked out anew at each call, gives the same answers.
+#[test]
+fn plain_session_answers_alike() {
+    for seed in 0..40 {
+        let mut driver = Driver::new(seed, Rates { refused: 6, undo: 15 });
+        let config = driver.generator.config();
+        let mut plain = Plain::new(config);
+        let mut record = session::start(config).value;
+        let mut journal = vec![seed as u8; JOURNAL];
+        for _ in 0..120 {
+            let state = record.state().unwrap();
+            let (answer, number) = match driver.next_call(&state) {
+                Call::Move(made) => {
+                    let answer = session::make_move(&record, &mut journal, made);
+                    (answer, plain.make_move(made))
+                }
+                Call::Undo => (session::undo(&record, &journal), plain.undo()),
+            };
+            assert_eq!(answer.number, number);
+            record = answer.value;
+            assert_eq!(record.snapshot, Snapshot::of(&plain.work_out().0));
+            let front = session::front(&record, &journal);
+            assert_eq!(front.value, plain.moves.concat());
+        }
+    }
+}

@@ -1,0 +1,57 @@
+//! The stored vectors are those that the generator writes, and the program gives their outputs.
+
+use std::collections::BTreeMap;
+use std::fs;
+use std::io::Write;
+use std::path::{Path, PathBuf};
+use std::process::{Command, Stdio};
+
+const FOLDERS: [&str; 4] = ["pictures", "sessions", "turns", "calls"];
+
+fn stored() -> PathBuf {
+    Path::new(env!("CARGO_MANIFEST_DIR")).join("../vectors")
+}
+
+fn files(root: &Path) -> BTreeMap<String, Vec<u8>> {
+    let mut all = BTreeMap::new();
+    for folder in FOLDERS {
+        for entry in fs::read_dir(root.join(folder)).unwrap() {
+            let path = entry.unwrap().path();
+            let name = format!("{folder}/{}", path.file_name().unwrap().to_str().unwrap());
+            all.insert(name, fs::read(path).unwrap());
+        }
+    }
+    all
+}
+
+#[test]
+fn stored_vectors_are_current() {
+    let fresh = Path::new(env!("CARGO_TARGET_TMPDIR")).join("vectors");
+    let _ = fs::remove_dir_all(&fresh);
+    let status = Command::new(env!("CARGO_BIN_EXE_vectors")).arg(&fresh).status().unwrap();
+    assert!(status.success());
+    let (old, new) = (files(&stored()), files(&fresh));
+    assert!(old.keys().eq(new.keys()));
+    for (name, content) in &new {
+        assert!(old[name] == *content, "{name} differs");
+    }
+    assert!(old.values().map(Vec::len).sum::<usize>() < 2_000_000);
+}
+
+#[test]
+fn program_gives_stored_outputs() {
+    let all = files(&stored());
+    for (name, input) in all.iter().filter(|(name, _)| name.ends_with(".in")) {
+        let mut child = Command::new(env!("CARGO_BIN_EXE_program"))
+            .stdin(Stdio::piped())
+            .stdout(Stdio::piped())
+            .spawn()
+            .unwrap();
+        let mut stdin = child.stdin.take().unwrap();
+        let input = input.clone();
+        let writer = std::thread::spawn(move || stdin.write_all(&input).unwrap());
+        let output = child.wait_with_output().unwrap();
+        writer.join().unwrap();
+        assert!(output.stdout == all[&name.replace(".in", ".out")], "{name}");
+    }
+}
