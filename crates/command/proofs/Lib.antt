@@ -1,0 +1,8 @@
+-- Exactly the spelled lines are commands (Lines, Fed); laws that the functions' proofs cite (the others).
+pub mod Laws
+pub mod Read
+pub mod Put
+pub mod Sized
+pub mod Fields
+pub mod Lines
+pub mod Fed

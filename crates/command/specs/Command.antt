@@ -1,0 +1,58 @@
+-- The program's lines, document 01, "The program": how each command is written, in bytes, and which command a line is.
+-- proofs/Lines shows that a line is read as a command exactly where it is that command's spelling, so `spell` says it all.
+-- Assumes nothing.
+use Prim.Native.Nat.{ℕ, _+_, _/_, _%_, _≤_}
+use mathlib.Core.Bool.{cond}
+use mathlib.Core.List.{List, [], _∷_, _++_}
+use lib.Dec.{eqb, ltb}
+use lib.ListN.{length}
+use Rattle.command.specs.declared.Command.{Command}
+use Rattle.command.specs.declared.Command.the-variants.{Start, Move, Back, Show, Unknown}
+use Rattle.command.specs.Reading.{starts, start-of, move-of}
+
+-- the decimal digits of a number below 1,000, without leading zeros; 48 is the digit 0
+unfoldable pub decimal : ℕ → List ℕ
+decimal n =
+    cond (ltb n 10) ((48 + n) ∷ [])
+    (cond (ltb n 100) ((48 + n / 10) ∷ (48 + n % 10) ∷ [])
+    ((48 + n / 100) ∷ (48 + n / 10 % 10) ∷ (48 + n % 10) ∷ []))
+
+-- `start`, `move`, `back`, `show`
+abbrev pub start-word : List ℕ
+start-word = 115 ∷ 116 ∷ 97 ∷ 114 ∷ 116 ∷ []
+
+abbrev pub move-word : List ℕ
+move-word = 109 ∷ 111 ∷ 118 ∷ 101 ∷ []
+
+abbrev pub back-word : List ℕ
+back-word = 98 ∷ 97 ∷ 99 ∷ 107 ∷ []
+
+abbrev pub show-word : List ℕ
+show-word = 115 ∷ 104 ∷ 111 ∷ 119 ∷ []
+
+-- a space and a number
+unfoldable pub field : ℕ → List ℕ
+field n = 32 ∷ decimal n
+
+-- the line that is the command; Unknown is none
+unfoldable pub spell : Command → List ℕ
+spell (Start p t m b) = start-word ++ (field p ++ (field t ++ (field m ++ field b)))
+spell (Move p a o) = move-word ++ (field p ++ (field a ++ field o))
+spell Back = back-word
+spell Show = show-word
+spell Unknown = []
+
+-- a command, with its numbers bytes
+abbrev pub Known : Command → Type 0
+Known (Start p t m b) = (p ≤ 255) × (t ≤ 255) × (m ≤ 255) × (b ≤ 255)
+Known (Move p a o) = (p ≤ 255) × (a ≤ 255) × (o ≤ 255)
+Known Back = Unit {0}
+Known Show = Unit {0}
+Known Unknown = ⊥
+
+-- the command that a line is
+unfoldable pub command-of : List ℕ → Command
+command-of l =
+    cond (starts start-word l) (start-of l)
+    (cond (starts move-word l) (move-of l)
+    (cond (eqb (length l) 4) (cond (starts back-word l) Back (cond (starts show-word l) Show Unknown)) Unknown))

@@ -1,0 +1,13 @@
+// The program's lines: which command a line is, and the bytes of an answer.
+pub mod line;
+pub mod printing;
+pub mod reading;
+
+// start P T M B, move p a o, back, show; any other line is Unknown.
+pub enum Command {
+    Start(u8, u8, u8, u8),
+    Move(u8, u8, u8),
+    Back,
+    Show,
+    Unknown,
+}

@@ -1,0 +1,184 @@
+// Which command a line of bytes is.
+ghost use Prim.Native.Nat.{_-_};
+ghost use mathlib.Core.Path.{_≡_};
+ghost use lib.ListN.{getD, drop};
+ghost use Rattle.command.specs.Reading.{is-digit, fit, field-of, field-at, three-at, starts, start-of, move-of};
+ghost use Rattle.command.specs.Command.{command-of};
+use crate::Command;
+
+// A space and a number: the number, and how many bytes the two take; a width of 0 says that they are not there.
+pub struct Field {
+    pub value: u8,
+    pub width: u8,
+}
+
+// Three fields in a row; a width of 0 says that they are not there.
+pub struct Three {
+    pub first: u8,
+    pub second: u8,
+    pub third: u8,
+    pub width: u16,
+}
+
+// The byte at index i of what stands from `at` on, 0 past the end.
+fn byte(s: &[u8], at: usize, i: usize) -> u8
+    ensures { λ r. ⌜ r ≡ getD (drop at (now (s .entry))) i 0 ⌝ }
+{
+    if s.len() <= at {
+        return 0;
+    }
+    if i < s.len() - at { s[at + i] } else { 0 }
+}
+
+fn digit(b: u8) -> bool
+    ensures { λ r. ⌜ r ≡ is-digit b ⌝ }
+{
+    (b'0' <= b) & (b <= b'9')
+}
+
+fn worth(b: u8) -> u16
+    ensures { λ r. ⌜ r ≡ b - 48 ⌝ }
+{
+    if b < b'0' { 0 } else { (b - b'0') as u16 }
+}
+
+// A number that is read, if it is at most 255.
+fn fit(n: u16, width: u8) -> Field
+    ensures { λ r. ⌜ r ≡ fit n width ⌝ }
+{
+    if n <= 255 {
+        Field {
+            value: n as u8,
+            width,
+        }
+    } else {
+        Field { value: 0, width: 0 }
+    }
+}
+
+// The field that starts with these bytes: one to three digits without a leading zero.
+fn field_of(space: u8, a: u8, b: u8, c: u8) -> Field
+    ensures { λ r. ⌜ r ≡ field-of space a b c ⌝ }
+{
+    let first = digit(a);
+    let second = digit(b);
+    let third = digit(c);
+    let one = worth(a);
+    let two = 10 * one + worth(b);
+    let three = 10 * two + worth(c);
+    if (space == b' ') & first {
+        if second {
+            if a == b'0' {
+                return fit(0, 0);
+            }
+            if third {
+                return fit(three, 4);
+            }
+            return fit(two, 3);
+        }
+        return fit(one, 2);
+    }
+    fit(0, 0)
+}
+
+fn field_at(s: &[u8], at: usize) -> Field
+    ensures { λ r. ⌜ r ≡ field-at (drop at (now (s .entry))) ⌝ }
+{
+    let space = byte(s, at, 0);
+    let a = byte(s, at, 1);
+    let b = byte(s, at, 2);
+    let c = byte(s, at, 3);
+    field_of(space, a, b, c)
+}
+
+fn three_at(s: &[u8], at: u16) -> Three
+    ensures { λ r. ⌜ r ≡ three-at (drop at (now (s .entry))) ⌝ }
+{
+    let from = at as usize;
+    let x = field_at(s, from);
+    let after = from + x.width as usize;
+    let y = field_at(s, after);
+    let last = after + y.width as usize;
+    let z = field_at(s, last);
+    if (0 < x.width) & (0 < y.width) & (0 < z.width) {
+        Three {
+            first: x.value,
+            second: y.value,
+            third: z.value,
+            width: x.width as u16 + y.width as u16 + z.width as u16,
+        }
+    } else {
+        Three {
+            first: 0,
+            second: 0,
+            third: 0,
+            width: 0,
+        }
+    }
+}
+
+// The line begins with this word.
+fn starts(word: &[u8], s: &[u8]) -> bool
+    ensures { λ r. ⌜ r ≡ starts (now (word .entry)) (now (s .entry)) ⌝ }
+{
+    let mut i = 0;
+    while i < word.len() {
+        if s.len() <= i {
+            return false;
+        }
+        if s[i] != word[i] {
+            return false;
+        }
+        i += 1;
+    }
+    true
+}
+
+// A line that begins with `start`.
+fn start(s: &[u8]) -> Command
+    ensures { λ r. ⌜ r ≡ start-of (now (s .entry)) ⌝ }
+{
+    let p = field_at(s, 5);
+    let after = 5 + p.width as u16;
+    let rest = three_at(s, after);
+    let end = after as usize + rest.width as usize;
+    if (0 < p.width) & (0 < rest.width) & (end == s.len()) {
+        Command::Start(p.value, rest.first, rest.second, rest.third)
+    } else {
+        Command::Unknown
+    }
+}
+
+// A line that begins with `move`.
+fn step(s: &[u8]) -> Command
+    ensures { λ r. ⌜ r ≡ move-of (now (s .entry)) ⌝ }
+{
+    let numbers = three_at(s, 4);
+    let end = 4 + numbers.width as usize;
+    if (0 < numbers.width) & (end == s.len()) {
+        Command::Move(numbers.first, numbers.second, numbers.third)
+    } else {
+        Command::Unknown
+    }
+}
+
+pub fn command_of(s: &[u8]) -> Command
+    ensures { λ r. ⌜ r ≡ command-of (now (s .entry)) ⌝ }
+{
+    if starts(b"start", s) {
+        return start(s);
+    }
+    if starts(b"move", s) {
+        return step(s);
+    }
+    if s.len() != 4 {
+        return Command::Unknown;
+    }
+    if starts(b"back", s) {
+        return Command::Back;
+    }
+    if starts(b"show", s) {
+        return Command::Show;
+    }
+    Command::Unknown
+}

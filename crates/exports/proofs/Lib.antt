@@ -1,0 +1,4 @@
+-- The replay that the code makes is the one that the definitions state, and what the exported functions answer.
+pub mod Replayed
+pub mod Answers
+pub mod Ahead

@@ -1,0 +1,4 @@
+-- What the functions that C programs call answer.
+pub mod Replay
+pub mod Turns
+pub mod Model

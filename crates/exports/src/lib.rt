@@ -1,0 +1,77 @@
+// Functions that C, Rust and Python programs call: numbers and byte slices in, a number out. include/humdayeg.h documents each.
+ghost use mathlib.Core.Path.{_≡_};
+ghost use lib.ListN.{length};
+ghost use Rattle.session.specs.Contract.{table};
+ghost use Rattle.snapshot.specs.Snapshot.{read-refusal};
+ghost use Rattle.exports.specs.Replay.{replay-refusal, replay-place, replay-buffer};
+ghost use Rattle.exports.specs.Turns.{ahead-answer};
+
+mod replay;
+
+use crate::replay::replay;
+use snapshot::answer::Ahead;
+
+// Turns ahead: a thread that does not wait, and what a refusal's number is added to.
+const NOT_WAITING: u8 = 100;
+
+const REFUSED: u8 = 200;
+
+// Replays moves, three bytes each, from a start table and writes the picture of the state that they lead to: 1, the number of the first refused move
+// with its place, counted from 1, or 10, else 0. Refused, no byte of the picture is written. Where no move is refused the place is 0.
+#[no_mangle]
+pub extern "C" fn humdayeg_replay(
+    p: u8,
+    t: u8,
+    m: u8,
+    b: u8,
+    moves: &[u8],
+    picture: &mut [u8],
+    place: &mut u32,
+) -> u8
+    ensures number { λ r. ⌜ r ≡ replay-refusal (table p t m b) (now (moves .entry)) (length (now (picture .entry))) ⌝ }
+    ensures written { λ r. ⌜ now (picture .exit) ≡ replay-buffer (table p t m b) (now (moves .entry)) (now (picture .entry)) ⌝ }
+    ensures place { λ r. ⌜ now (place .exit) ≡ replay-place (table p t m b) (now (moves .entry)) ⌝ }
+{
+    *place = 0;
+    let started = session::start(p, t, m, b);
+    let bad = started.refusal;
+    if bad != 0 {
+        return bad;
+    }
+    let found = replay(p, t, m, b, moves);
+    *place = found.place;
+    let refused = found.refusal;
+    if refused != 0 {
+        return refused;
+    }
+    let state = found.state;
+    snapshot::write(state, picture)
+}
+
+// The number that reading a picture gets: 11, 12, 13 or 14, or 0.
+#[no_mangle]
+pub extern "C" fn humdayeg_read(picture: &[u8]) -> u8
+    ensures { λ r. ⌜ r ≡ read-refusal (now (picture .entry)) ⌝ }
+{
+    let found = snapshot::read(picture);
+    found.refusal
+}
+
+// Turns ahead of a thread in a picture: 0 to 32; 100 where it is not waiting; 200 plus the number of a refusal, the picture's or 3.
+#[no_mangle]
+pub extern "C" fn humdayeg_ahead(picture: &[u8], thread: u8) -> u8
+    ensures { λ r. ⌜ r ≡ ahead-answer (now (picture .entry)) thread ⌝ }
+{
+    let found = snapshot::read(picture);
+    let bad = found.refusal;
+    if bad != 0 {
+        return REFUSED + bad;
+    }
+    let state = found.state;
+    let answer = snapshot::ahead(state, thread);
+    match answer {
+        Ahead::Turns(n) => n,
+        Ahead::NotWaiting => NOT_WAITING,
+        Ahead::Refused(n) => REFUSED + n,
+    }
+}

@@ -1,0 +1,53 @@
+// Replaying moves from a start table, with the place of the first that is refused.
+ghost use mathlib.Core.Path.{_≡_};
+ghost use Rattle.reference.specs.Start.{config-cause};
+ghost use Rattle.session.specs.Contract.{table};
+ghost use Rattle.exports.specs.Model.{Replays};
+use state::State;
+use step::moves::moved;
+
+// A move without its operand.
+const BAD_OPERAND: u8 = 3;
+
+// The number of the first refused move and its place, counted from 1, or 0 and 0; and the state before it, or after all.
+pub(crate) struct Replayed {
+    pub refusal: u8,
+    pub place: u32,
+    pub state: State,
+}
+
+pub(crate) fn replay(p: u8, t: u8, m: u8, b: u8, moves: &[u8]) -> Replayed
+    requires { ⌜ config-cause (table p t m b) ≡ 0 ⌝ }
+    ensures { λ r. ⌜ Replays (table p t m b) (now (moves .entry)) r ⌝ }
+{
+    let mut s = State::start(p, t, m, b);
+    let n = moves.len() / 3;
+    let mut i: usize = 0;
+    while i < n {
+        let at = 3 * i;
+        let made = moved(s, moves[at], moves[at + 1], moves[at + 2]);
+        let refusal = made.refusal;
+        if refusal != 0 {
+            return Replayed {
+                refusal,
+                place: (i as u32) + 1,
+                state: s,
+            };
+        }
+        let next = made.state;
+        s = next;
+        i += 1;
+    }
+    if moves.len() % 3 != 0 {
+        return Replayed {
+            refusal: BAD_OPERAND,
+            place: (i as u32) + 1,
+            state: s,
+        };
+    }
+    Replayed {
+        refusal: 0,
+        place: 0,
+        state: s,
+    }
+}

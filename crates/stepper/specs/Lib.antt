@@ -1,0 +1,3 @@
+-- What the program writes for what it reads.
+pub mod Page
+pub mod Program

@@ -1,0 +1,102 @@
+/*
+ * Humdayeg: the proved stepping machine, for C and for whatever calls C.
+ *
+ * Link with libexports.a, which `rt staticlib exports` writes below target/staticlib.
+ * The functions keep no state, allocate nothing and call nothing; calls on different
+ * memory may run at the same time.
+ *
+ * Numbers. 0 is no refusal; 1 to 14 are those of the scope, named below. No call
+ * answers another number.
+ *
+ * Memory. A pointer and the length after it stand for the bytes of a slice. No pointer is
+ * NULL, not even where its length is 0. What is written may not overlap what is read.
+ */
+#ifndef HUMDAYEG_H
+#define HUMDAYEG_H
+
+#include <stddef.h>
+#include <stdint.h>
+
+#ifdef __cplusplus
+extern "C" {
+#endif
+
+enum {
+    HUMDAYEG_BAD_TABLE = 1,     /* P, T, M or B outside its range */
+    HUMDAYEG_NO_PROCESSOR = 2,  /* no such processor */
+    HUMDAYEG_BAD_OPERAND = 3,   /* action over 6, or operand not as the action wants it */
+    HUMDAYEG_CALL_AWAY = 4,     /* call elsewhere than at App */
+    HUMDAYEG_GO_AT_APP = 5,     /* go at App */
+    HUMDAYEG_NOT_OWNER = 6,     /* unlock by a thread that is not the owner */
+    HUMDAYEG_NOT_NEW = 7,       /* create of a thread that is not unborn */
+    HUMDAYEG_FULL = 8,          /* 4,000 moves stand already */
+    HUMDAYEG_TOO_SHORT = 10,    /* buffer shorter than the picture */
+    HUMDAYEG_BAD_LENGTH = 11,   /* length not exactly the picture's */
+    HUMDAYEG_BAD_FIELD = 12,    /* a field, register or zero-byte rule */
+    HUMDAYEG_BAD_CHAIN = 13,    /* a chain meets a thread twice, a wrong one, or misses one */
+    HUMDAYEG_BAD_HOLDER = 14    /* loaded and hand fields disagree with places 3 and 4 */
+};
+
+/* The most moves that can stand, and the bytes of a move. */
+#define HUMDAYEG_MOST_MOVES 4000
+#define HUMDAYEG_MOVE_BYTES 3
+
+/* The length of a picture; the longest, of 8 processors, 32 threads and 8 mutexes. */
+#define HUMDAYEG_PICTURE_BYTES(p, t, m) \
+    ((size_t)8 + 12 * (size_t)(p) + 8 * (size_t)(m) + 4 * (size_t)(t))
+#define HUMDAYEG_MOST_PICTURE_BYTES 296
+
+/*
+ * Replays moves from a start table and writes the picture of the state that they lead to.
+ *
+ * p, t, m, b: the start table: processors 1 to 8, threads 1 to 32, mutexes 1 to 8, threads
+ *     born at first 1 to t.
+ * moves: moves_len bytes, three for each move: processor, action, operand.
+ * picture: picture_len bytes; HUMDAYEG_PICTURE_BYTES(p, t, m) are enough, and
+ *     HUMDAYEG_MOST_PICTURE_BYTES always are. Bytes after the picture keep their values.
+ * place: set at every call: which move is refused, counted from 1; 0 where none is.
+ *
+ * Answers, the first that is there:
+ *     1        the table is outside its ranges; place is 0
+ *     2 to 8   the moves are made in order, and this is the first that is refused, with its
+ *              place. The 4,001st move is refused, by 8 where not by 2 or 3. One or two bytes
+ *              left at the end are a move without its operand, refused by 3 once all moves
+ *              before it are accepted. Nothing after a refused move is looked at.
+ *     10       every move is accepted and the picture does not fit; place is 0. So a call
+ *              with picture_len 0 tries a list of moves and writes nothing.
+ *     0        accepted, the picture is written; place is 0
+ * With any answer but 0 no byte of the picture is changed.
+ */
+uint8_t humdayeg_replay(uint8_t p, uint8_t t, uint8_t m, uint8_t b,
+                        const uint8_t *moves, size_t moves_len,
+                        uint8_t *picture, size_t picture_len,
+                        uint32_t *place);
+
+/*
+ * Reads a picture and answers its number: 0 if the bytes are a picture, else the first that
+ * is there of 11 (under 8 bytes), 12 (sizes), 11 (length not exactly the picture's), 12, 13
+ * and 14. A picture is HUMDAYEG_PICTURE_BYTES(p, t, m) bytes, p, t and m being its first
+ * three.
+ */
+uint8_t humdayeg_read(const uint8_t *picture, size_t picture_len);
+
+/*
+ * Turns ahead of a thread in a picture.
+ *
+ * Answers:
+ *     0 to 32                  the thread waits in a mutex's queue: the threads before it,
+ *                              plus one if the mutex has an owner
+ *     HUMDAYEG_NOT_WAITING     it is a thread of the picture and waits in no mutex's queue
+ *     HUMDAYEG_REFUSED + n     refused by n: 11 to 14 as humdayeg_read answers, or 3 where
+ *                              the picture is right and the thread outside 1 to T
+ */
+#define HUMDAYEG_NOT_WAITING 100
+#define HUMDAYEG_REFUSED 200
+
+uint8_t humdayeg_ahead(const uint8_t *picture, size_t picture_len, uint8_t thread);
+
+#ifdef __cplusplus
+}
+#endif
+
+#endif

@@ -1,0 +1,39 @@
+#!/bin/sh
+# Runs the line program on every session of a folder and compares what it writes, byte for byte.
+# Then runs it on some of them through pipes, a line at a time: each answer must come before the next line is sent.
+#   check_sessions.sh PROGRAM VECTORS      e.g. target/bin/stepper tests/vectors
+# Last line: 'N passed, M failed'. Exit status 0 if none failed, 1 if some did, 2 if there is nothing to run.
+if [ $# -ne 2 ] || [ ! -x "$1" ] || [ ! -d "$2" ]; then
+    echo "usage: $0 PROGRAM VECTORS" >&2
+    exit 2
+fi
+program=$(realpath "$1")
+vectors=$2
+here=$(dirname "$(realpath "$0")")
+[ -d "$vectors/sessions" ] && vectors=$vectors/sessions
+out=$(mktemp) || exit 2
+trap 'rm -f "$out"' EXIT
+passed=0
+failed=0
+
+count() { # STATUS NAME
+    if [ "$1" -eq 0 ]; then
+        passed=$((passed + 1))
+    else
+        failed=$((failed + 1))
+        echo "failed: $2" >&2
+    fi
+}
+
+for in in "$vectors"/*.in; do
+    [ -f "$in" ] || continue
+    want=${in%.in}.out
+    timeout 60 "$program" <"$in" >"$out" && cmp -s "$out" "$want"
+    count $? "$in"
+    python3 "$here/talk.py" "$program" "$in" "$want"
+    count $? "$in, a line at a time"
+done
+
+echo "$passed passed, $failed failed"
+[ $((passed + failed)) -gt 0 ] || exit 2
+[ "$failed" -eq 0 ]

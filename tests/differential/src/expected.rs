@@ -1,0 +1,66 @@
+//! What the library is to answer, worked out by the package `independent`.
+
+use crate::{Ahead, Replayed, Table};
+use independent::machine::{Config, State};
+use independent::picture;
+use independent::record::Snapshot;
+use independent::session;
+
+pub fn config([p, t, m, b]: Table) -> Config {
+    Config::new(p, t, m, b)
+}
+
+pub fn table(config: Config) -> Table {
+    [config.processors, config.threads, config.mutexes, config.born]
+}
+
+/// The picture of a state.
+pub fn picture_of(state: &State) -> Vec<u8> {
+    let shown = Snapshot::of(state);
+    let mut bytes = vec![0; picture::length(shown.processors, shown.threads, shown.mutexes)];
+    assert_eq!(picture::write(&shown, &mut bytes), 0);
+    bytes
+}
+
+/// The answer to a replay and the buffer after it.
+pub fn replay(table: Table, moves: &[u8], buffer: &[u8]) -> (Replayed, Vec<u8>) {
+    let refused = |number: u8, place: u32| (Replayed { number, place }, buffer.to_vec());
+    if !config(table).in_range() {
+        return refused(1, 0);
+    }
+    let mut state = State::start(config(table));
+    let mut place = 0;
+    for bytes in moves.chunks(3) {
+        place += 1;
+        let &[p, action, operand] = bytes else {
+            return refused(3, place);
+        };
+        if let Err(number) = state.try_move([p, action, operand]) {
+            return refused(number, place);
+        }
+    }
+    let shown = picture_of(&state);
+    if buffer.len() < shown.len() {
+        return refused(10, 0);
+    }
+    let mut after = buffer.to_vec();
+    after[..shown.len()].copy_from_slice(&shown);
+    (Replayed { number: 0, place: 0 }, after)
+}
+
+/// The number that reading gets.
+pub fn read(bytes: &[u8]) -> u8 {
+    picture::read(bytes).number
+}
+
+pub fn ahead(bytes: &[u8], thread: u8) -> Ahead {
+    let shown = picture::read(bytes);
+    if !shown.is_accepted() {
+        return Ahead::Refused(shown.number);
+    }
+    match session::ahead(&shown.value, thread) {
+        session::Ahead::Waits(turns) => Ahead::Waits(turns),
+        session::Ahead::NotWaiting => Ahead::NotWaiting,
+        session::Ahead::Refused(number) => Ahead::Refused(number),
+    }
+}

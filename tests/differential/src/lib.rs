@@ -1,0 +1,81 @@
+//! A safe wrapper over the static library of the proved machine (`include/humdayeg.h`), and in
+//! `expected` the same answers worked out by the package `independent`.
+
+pub mod expected;
+pub mod sessions;
+
+mod c {
+    extern "C" {
+        pub fn humdayeg_replay(
+            p: u8,
+            t: u8,
+            m: u8,
+            b: u8,
+            moves: *const u8,
+            moves_len: usize,
+            picture: *mut u8,
+            picture_len: usize,
+            place: *mut u32,
+        ) -> u8;
+        pub fn humdayeg_read(picture: *const u8, picture_len: usize) -> u8;
+        pub fn humdayeg_ahead(picture: *const u8, picture_len: usize, thread: u8) -> u8;
+    }
+}
+
+/// The longest picture.
+pub const MOST_PICTURE: usize = 296;
+
+/// P, T, M and B.
+pub type Table = [u8; 4];
+
+/// The number of a refusal, 0 for none, and the place of the refused move, 0 for none.
+#[derive(Clone, Copy, PartialEq, Eq, Debug)]
+pub struct Replayed {
+    pub number: u8,
+    pub place: u32,
+}
+
+/// What is known of a thread's turns.
+#[derive(Clone, Copy, PartialEq, Eq, Debug)]
+pub enum Ahead {
+    Waits(u8),
+    NotWaiting,
+    Refused(u8),
+}
+
+/// Replays moves, three bytes each, from a start table, and writes the picture of the state
+/// that they lead to; refused, it writes nothing.
+pub fn replay(table: Table, moves: &[u8], picture: &mut [u8]) -> Replayed {
+    let [p, t, m, b] = table;
+    let mut place = u32::MAX;
+    // Both slices and the number live through the call, which keeps none of them.
+    let number = unsafe {
+        c::humdayeg_replay(
+            p,
+            t,
+            m,
+            b,
+            moves.as_ptr(),
+            moves.len(),
+            picture.as_mut_ptr(),
+            picture.len(),
+            &mut place,
+        )
+    };
+    Replayed { number, place }
+}
+
+/// The number that reading a picture gets.
+pub fn read(picture: &[u8]) -> u8 {
+    unsafe { c::humdayeg_read(picture.as_ptr(), picture.len()) }
+}
+
+/// Turns ahead of a thread in a picture.
+pub fn ahead(picture: &[u8], thread: u8) -> Ahead {
+    match unsafe { c::humdayeg_ahead(picture.as_ptr(), picture.len(), thread) } {
+        turns @ 0..=32 => Ahead::Waits(turns),
+        100 => Ahead::NotWaiting,
+        number @ 201..=216 => Ahead::Refused(number - 200),
+        other => panic!("no answer: {other}"),
+    }
+}

@@ -1,0 +1,83 @@
+//! Sessions to compare: lists of moves and the states on the way, from a seed.
+
+use crate::{expected, replay, Table};
+use independent::machine::{Move, State};
+use independent::random::{Call, Driver, Generator, Rates};
+
+/// A start table, accepted moves as bytes, and the state after each of them.
+pub struct Session {
+    pub table: Table,
+    pub moves: Vec<u8>,
+    pub states: Vec<State>,
+}
+
+impl Session {
+    pub fn new(table: Table) -> Session {
+        let start = State::start(expected::config(table));
+        Session { table, moves: Vec::new(), states: vec![start] }
+    }
+
+    pub fn state(&self) -> &State {
+        self.states.last().unwrap()
+    }
+
+    /// Makes a move, or gives its refusal.
+    pub fn make(&mut self, made: Move) -> Result<(), u8> {
+        let mut next = self.state().clone();
+        next.try_move(made)?;
+        self.states.push(next);
+        self.moves.extend(made);
+        Ok(())
+    }
+
+    pub fn undo(&mut self) {
+        if self.states.len() > 1 {
+            self.states.pop();
+            self.moves.truncate(self.moves.len() - 3);
+        }
+    }
+}
+
+/// A session of `calls` calls of a driver. Refused moves are handed to `refused`, with the
+/// session as it then stands.
+pub fn drive(
+    seed: u64,
+    rates: Rates,
+    calls: usize,
+    mut refused: impl FnMut(&Session, Move),
+) -> Session {
+    let mut driver = Driver::new(seed, rates);
+    let mut session = Session::new(expected::table(driver.generator.config()));
+    for _ in 0..calls {
+        match driver.next_call(session.state()) {
+            Call::Undo => session.undo(),
+            Call::Move(made) => {
+                if session.make(made).is_err() {
+                    refused(&session, made);
+                }
+            }
+        }
+    }
+    session
+}
+
+/// A buffer of bytes that no picture has all through.
+pub fn patterned(length: usize) -> Vec<u8> {
+    (0..length).map(|at| 0xa5 ^ (at as u8).wrapping_mul(29)).collect()
+}
+
+/// Compares one replay, its answer and every byte of its buffer.
+pub fn compare(table: Table, moves: &[u8], length: usize) {
+    let before = patterned(length);
+    let mut after = before.clone();
+    let answer = replay(table, moves, &mut after);
+    let (wanted, buffer) = expected::replay(table, moves, &before);
+    assert_eq!(answer, wanted, "{table:?}, {} bytes of moves, buffer {length}", moves.len());
+    assert!(after == buffer, "{table:?}, {} bytes of moves, buffer {length}", moves.len());
+}
+
+/// Some bytes that may follow a refused move.
+pub fn tail(generator: &mut Generator) -> Vec<u8> {
+    let length = generator.below(8);
+    (0..length).map(|_| generator.byte()).collect()
+}

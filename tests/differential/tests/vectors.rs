@@ -1,0 +1,199 @@
+//! The stored vectors through the static library: pictures, turns, and the program's sessions
+//! with each answer worked out by a replay.
+
+use differential::{ahead, read, replay, Ahead, Replayed, Table, MOST_PICTURE};
+use std::fs;
+use std::path::{Path, PathBuf};
+
+/// The files of a folder of vectors with an ending, in order.
+fn files(folder: &str, ending: &str) -> Vec<PathBuf> {
+    let root = Path::new(env!("CARGO_MANIFEST_DIR")).join("../vectors").join(folder);
+    let mut all: Vec<PathBuf> = fs::read_dir(root).unwrap().map(|f| f.unwrap().path()).collect();
+    all.retain(|path| path.to_str().unwrap().ends_with(ending));
+    all.sort();
+    assert!(!all.is_empty());
+    all
+}
+
+fn text(path: &Path) -> String {
+    fs::read_to_string(path).unwrap()
+}
+
+fn unhex(digits: &str) -> Vec<u8> {
+    let byte = |at: usize| u8::from_str_radix(&digits[at..at + 2], 16).unwrap();
+    (0..digits.len()).step_by(2).filter(|_| digits != "-").map(byte).collect()
+}
+
+fn hex(bytes: &[u8]) -> String {
+    bytes.iter().map(|byte| format!("{byte:02x}")).collect()
+}
+
+fn numbers(words: &str) -> Vec<u8> {
+    words.split_whitespace().map(|word| word.parse().unwrap()).collect()
+}
+
+/// The number with one byte changed.
+fn changed(picture: &[u8], at: usize, value: u8) -> u8 {
+    let mut bytes = picture.to_vec();
+    bytes[at] = value;
+    read(&bytes)
+}
+
+#[test]
+fn pictures() {
+    for path in files("pictures", ".txt") {
+        let mut picture = Vec::new();
+        for line in text(&path).lines() {
+            let (field, value) = line.split_once(' ').unwrap();
+            let all = 0..picture.len();
+            let got: Vec<u8> = match field {
+                "picture" => {
+                    picture = unhex(value);
+                    continue;
+                }
+                "whole" => vec![read(&picture)],
+                "xor1" => all.map(|at| changed(&picture, at, picture[at] ^ 1)).collect(),
+                "add128" => {
+                    all.map(|at| changed(&picture, at, picture[at].wrapping_add(128))).collect()
+                }
+                "short" => vec![read(&picture[..picture.len() - 1])],
+                "long" => vec![read(&[&picture[..], &[0]].concat())],
+                "prefixes" => (0..10).map(|n| read(&picture[..n])).collect(),
+                _ => panic!("{field}"),
+            };
+            assert_eq!(got, numbers(value), "{} {field}", path.display());
+        }
+    }
+}
+
+#[test]
+fn values_of_each_byte() {
+    for path in files("pictures", ".values") {
+        let text = text(&path);
+        let mut lines = text.lines();
+        let picture = unhex(lines.next().unwrap().strip_prefix("picture ").unwrap());
+        let mut places = 0;
+        for line in lines {
+            let (place, runs) = line.split_once(' ').unwrap();
+            let at: usize = place.parse().unwrap();
+            let mut values = 0;
+            for run in runs.split_whitespace() {
+                let (range, number) = run.split_once('=').unwrap();
+                let (first, last) = range.split_once('-').unwrap();
+                let (first, last): (u8, u8) = (first.parse().unwrap(), last.parse().unwrap());
+                for value in first..=last {
+                    values += 1;
+                    let wanted: u8 = number.parse().unwrap();
+                    assert_eq!(changed(&picture, at, value), wanted, "{} {line}", path.display());
+                }
+            }
+            assert_eq!(values, 256);
+            places += 1;
+        }
+        assert_eq!(places, picture.len());
+    }
+}
+
+#[test]
+fn lists_of_bytes() {
+    for path in files("pictures", ".list") {
+        for line in text(&path).lines() {
+            let (number, bytes) = line.split_once(' ').unwrap();
+            assert_eq!(read(&unhex(bytes)), number.parse::<u8>().unwrap(), "{line}");
+        }
+    }
+}
+
+#[test]
+fn turns() {
+    for path in files("turns", ".txt") {
+        let text = text(&path);
+        let mut lines = text.lines();
+        let picture = unhex(lines.next().unwrap().strip_prefix("picture ").unwrap());
+        for line in lines {
+            let words: Vec<&str> = line.split(' ').collect();
+            let thread = words[0].parse().unwrap();
+            let wanted = match words[1..] {
+                ["waits", turns] => Ahead::Waits(turns.parse().unwrap()),
+                ["not-waiting"] => Ahead::NotWaiting,
+                ["refused", number] => Ahead::Refused(number.parse().unwrap()),
+                _ => panic!("{line}"),
+            };
+            assert_eq!(ahead(&picture, thread), wanted, "{} {line}", path.display());
+        }
+    }
+}
+
+/// The line program's session as a start table and the list of its standing moves.
+#[derive(Default)]
+struct Sitting {
+    table: Option<Table>,
+    moves: Vec<u8>,
+}
+
+impl Sitting {
+    /// The answer to a line whose answer is not `?`.
+    fn answer(&mut self, line: &str) -> String {
+        let (word, rest) = line.split_once(' ').unwrap_or((line, ""));
+        let rest = numbers(rest);
+        let mut picture = [0; MOST_PICTURE];
+        match word {
+            "start" => {
+                let table = [rest[0], rest[1], rest[2], rest[3]];
+                let begun = replay(table, &[], &mut picture);
+                if begun.number == 0 {
+                    *self = Sitting { table: Some(table), moves: Vec::new() };
+                }
+                begun.number.to_string()
+            }
+            "move" => {
+                let stood = self.moves.len();
+                self.moves.extend(&rest);
+                let made = replay(self.table.unwrap(), &self.moves, &mut picture);
+                if made.number != 0 {
+                    assert_eq!(made.place as usize, stood / 3 + 1);
+                    self.moves.truncate(stood);
+                }
+                made.number.to_string()
+            }
+            "back" if self.moves.is_empty() => "9".to_string(),
+            "back" => {
+                self.moves.truncate(self.moves.len() - 3);
+                "0".to_string()
+            }
+            _ => {
+                let table = self.table.unwrap();
+                let [p, t, m, _] = table.map(usize::from);
+                let shown = replay(table, &self.moves, &mut picture);
+                assert_eq!(shown, Replayed { number: 0, place: 0 });
+                hex(&picture[..8 + 12 * p + 8 * m + 4 * t])
+            }
+        }
+    }
+}
+
+#[test]
+fn program_sessions() {
+    let mut compared = 0;
+    for path in files("sessions", ".in") {
+        let mut input = fs::read(&path).unwrap();
+        if input.last() == Some(&b'\n') {
+            input.pop();
+        } else if input.is_empty() {
+            continue;
+        }
+        let output = text(&path.with_extension("out"));
+        let mut sitting = Sitting::default();
+        let lines: Vec<&[u8]> = input.split(|&byte| byte == b'\n').collect();
+        assert_eq!(lines.len(), output.lines().count(), "{}", path.display());
+        for (line, wanted) in lines.iter().zip(output.lines()) {
+            // Lines that are no command are the program's own affair.
+            if wanted != "?" {
+                let line = std::str::from_utf8(line).unwrap();
+                assert_eq!(sitting.answer(line), wanted, "{} {line}", path.display());
+                compared += 1;
+            }
+        }
+    }
+    assert!(compared > 10_000, "{compared}");
+}
