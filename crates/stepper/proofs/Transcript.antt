@@ -4,7 +4,7 @@ use native.Mathlib.Omega.{arith}
 use mathlib.Core.Bool.{Bool, true, false, cond}
 use mathlib.Core.Path.{_≡_, refl, sym, ap, subst, _∙_}
 use mathlib.Core.List.{List, [], _∷_, _++_, append-nil, append-assoc}
-use lib.Dec.{eqb}
+use lib.Dec.{eqb, ltb}
 use lib.ListN.{length, take, drop, length-append, length-drop}
 use lib.Seq.{take-at, length-take-le}
 use borrow.Author.Tests.{le-leb, eqb-true}
@@ -21,8 +21,8 @@ use Rattle.state.specs.declared.State.{State}
 use Rattle.state.specs.Association.{decode}
 use Rattle.reference.specs.Snapshot.{picture}
 use Rattle.snapshot.specs.Snapshot.{write-refusal}
-use Rattle.stepper.specs.declared.desk.Desk.{Desk}
-use Rattle.stepper.specs.Page.{Page, page, add, line, talk, Scene, scene, ended, heard, heard-all}
+use Rattle.stepper.specs.Page.{Page, add, line, Scene, ended, heard, heard-all}
+use Rattle.stepper.specs.Piece.{text, Heard, Closed}
 use Rattle.stepper.specs.Program.{Talk, question, shown, reply, after, answers, rest, later, last}
 use Rattle.stepper.proofs.Pages.{chosen, passed-over}
 use Rattle.stepper.proofs.Shown.{room, long}
@@ -56,10 +56,6 @@ reply-length Unknown k = omega arith
 
 -- ---- where there is room, a line of output is added whole
 
--- what counts of a page
-abbrev pub text : Page → List ℕ
-text p = take (p .len) (p .bytes)
-
 record Added (p q : Page) (x : List ℕ) : Type 0 where
   pub size : length (q .bytes) ≡ length (p .bytes)
   pub count : q .len ≡ p .len + length x
@@ -87,13 +83,6 @@ line-room p x h =
     }
 
 -- ---- a piece of the input
-
--- x: the scene before the piece l, where the line so far is `seen`; y: the scene after it
-pub record Heard (seen l : List ℕ) (x y : Scene) : Type 0 where
-  pub talk : y .talk ≡ later seen l (x .talk)
-  pub line : y .line ≡ feed-all (rest seen l) empty-line
-  pub size : length (y .page .bytes) ≡ length (x .page .bytes)
-  pub all : text (y .page) ≡ text (x .page) ++ answers seen l (x .talk)
 
 -- where each byte has room for an answer, the output gains exactly the answers
 pub heard-answers : (l seen : List ℕ) (x : Scene) → x .line ≡ feed-all seen empty-line → x .page .len + 593 * length l ≤ length (x .page .bytes) → Heard seen l x (heard-all l x)
@@ -179,18 +168,29 @@ answers-cut (b ∷ l) m seen k = go (answers-cut l m) (eqb b 10)
         ap (λ (q : List ℕ). r ++ (10 ∷ q)) (more [] k′) ∙ sym (append-assoc r (10 ∷ answers [] l k′) (answers (rest [] l) m (later [] l k′)))
     go more false = more (seen ++ (b ∷ [])) k
 
--- ---- what the program writes after each read, and at the end of the input: its output is empty before, and holds 304,000 bytes
+-- ---- the end of the input
 
-pub piece-answers : (l seen : List ℕ) (d : Desk) (n : Line) (j o : List ℕ) → n ≡ feed-all seen empty-line → d .len ≡ 0 → length o ≡ 304000 → length l ≤ 512
-    → text (heard-all l (scene d n j o) .page) ≡ answers seen l (talk d j)
-piece-answers l seen d n j o e z s h =
-    heard-answers l seen (scene d n j o) e (omega arith) .all ∙ ap (λ (k : ℕ). take k o ++ answers seen l (talk d j)) z
+-- a line that has bytes counts some
+counts-more : (l : List ℕ) (x : Line) → x .len ≤ feed-all l x .len
+unfolding feed-all
+counts-more [] x = omega arith
+counts-more (b ∷ l) x = omega (arith, step (ltb (x .len) 64) refl, counts-more l (fed x b))
+  where
+    step : (t : Bool) → ltb (x .len) 64 ≡ t → x .len ≤ fed x b .len
+    step true e = rw e (omega arith)
+    step false e = rw e (omega arith)
 
-pub last-answer : (b : ℕ) (l : List ℕ) (d : Desk) (n : Line) (j o : List ℕ) → n ≡ feed-all (b ∷ l) empty-line → d .len ≡ 0 → length o ≡ 304000
-    → text (ended (scene d n j o) .page) ≡ last (b ∷ l) (talk d j)
-unfolding last
-last-answer b l d n j o e z s =
-    let c : command-in n ≡ command-of (b ∷ l) = ap command-in e ∙ fed-read (b ∷ l) in
-    line-room (page o (d .len)) (reply (command-in n) (talk d j)) (omega (arith, reply-length (command-in n) (talk d j))) .all
-    ∙ ap (λ (k : ℕ). take k o ++ (reply (command-in n) (talk d j) ++ (10 ∷ []))) z
-    ∙ ap (λ (q : Command). reply q (talk d j) ++ (10 ∷ [])) c
+pub none-left : (seen : List ℕ) (x y : Scene) → x .line ≡ feed-all seen empty-line → (0 < x .line .len → ⊥) → y ≡ x → Closed seen x y
+unfolding last feed-all
+none-left [] x y e z q = record { all = rw q (sym (append-nil (text (x .page)))) }
+none-left (b ∷ l) x y e z q =
+    let h : 1 ≤ feed-all l (fed empty-line b) .len = counts-more l (fed empty-line b) in
+    absurd (z (rw e h))
+
+pub last-answered : (seen : List ℕ) (x y : Scene) → x .line ≡ feed-all seen empty-line → 0 < x .line .len → x .page .len + 593 ≤ length (x .page .bytes) → y ≡ ended x → Closed seen x y
+unfolding last feed-all
+last-answered [] x y e z h q = let w : 0 < empty-line .len = rw e at z in absurd (omega arith)
+last-answered (b ∷ l) x y e z h q =
+    let c : command-in (x .line) ≡ command-of (b ∷ l) = ap command-in e ∙ fed-read (b ∷ l) in
+    let a = line-room (x .page) (reply (command-in (x .line)) (x .talk)) (omega (arith, reply-length (command-in (x .line)) (x .talk))) in
+    record { all = rw q (a .all ∙ ap (λ (k : Command). text (x .page) ++ (reply k (x .talk) ++ (10 ∷ []))) c) }

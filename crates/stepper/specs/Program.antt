@@ -1,5 +1,5 @@
 -- "The program", document 01: what the program writes for what it reads.
--- proofs/Transcript shows that the code's output for a piece of the input is `answers` of it, however the input is cut into pieces.
+-- feed_all and closed of src/main.rt state that the output gains exactly `answers` and `last` (Piece); proofs/Transcript shows that an input may be cut anywhere.
 use Prim.Native.Nat.{ℕ}
 use mathlib.Core.Bool.{Bool, true, cond}
 use mathlib.Core.List.{List, [], _∷_, _++_}

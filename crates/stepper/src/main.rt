@@ -2,7 +2,12 @@
 mod desk;
 
 ghost use mathlib.Core.Path.{_≡_};
+ghost use mathlib.Core.List.{List};
+ghost use Prim.Native.Nat.{ℕ, _+_, _*_, _≤_};
+ghost use lib.ListN.{length};
+ghost use Rattle.command.specs.Line.{empty-line, feed-all};
 ghost use Rattle.stepper.specs.Page.{scene, ended as scene-ended, heard, heard-all};
+ghost use Rattle.stepper.specs.Piece.{Heard, Closed};
 use command::line::Line;
 use desk::Desk;
 use libc::STDIN_FILENO;
@@ -45,8 +50,11 @@ fn feed(s: Sitting, b: u8, journal: &mut [u8], out: &mut [u8]) -> Sitting
     Sitting { desk, line: longer }
 }
 
+// A piece of the input: with room for an answer to each byte, the output gains exactly the answers to the lines that end in it.
 fn feed_all(s: Sitting, bytes: &[u8], journal: &mut [u8], out: &mut [u8]) -> Sitting
+    requires { ⌜ s .desk .len + 593 * length (now bytes) ≤ length (now out) ⌝ }
     ensures { λ r. ⌜ scene (r .desk) (r .line) (now (journal .exit)) (now (out .exit)) ≡ heard-all (now (bytes .entry)) (scene (s .desk) (s .line) (now (journal .entry)) (now (out .entry))) ⌝ }
+    ensures { λ r. ⌜ ((seen : List ℕ) → s .line ≡ feed-all seen empty-line → Heard seen (now (bytes .entry)) (scene (s .desk) (s .line) (now (journal .entry)) (now (out .entry))) (scene (r .desk) (r .line) (now (journal .exit)) (now (out .exit)))) ⌝ }
 {
     let mut sitting = s;
     for i in 0..bytes.len() {
@@ -69,7 +77,10 @@ fn flushed(desk: Desk, out: &[u8]) -> Desk
 }
 
 // One read, and the lines that it ends: their answers are written before the next read.
-fn read_some(s: Sitting, journal: &mut [u8], out: &mut [u8]) -> Turn {
+fn read_some(s: Sitting, journal: &mut [u8], out: &mut [u8]) -> Turn
+    requires { ⌜ (s .desk .len ≡ 0) × (length (now out) ≡ 304000) ⌝ }
+    ensures { λ r. ⌜ r .sitting .desk .len ≡ 0 ⌝ }
+{
     let mut chunk = [0u8; 512];
     let got = libc::read(STDIN_FILENO, &mut chunk);
     if got <= 0 {
@@ -90,17 +101,29 @@ fn read_some(s: Sitting, journal: &mut [u8], out: &mut [u8]) -> Turn {
 }
 
 // A last line without a line feed is a line.
-fn finish(s: Sitting, journal: &mut [u8], out: &mut [u8]) {
+fn closed(s: Sitting, journal: &mut [u8], out: &mut [u8]) -> Sitting
+    requires { ⌜ s .desk .len + 593 ≤ length (now out) ⌝ }
+    ensures { λ r. ⌜ ((seen : List ℕ) → s .line ≡ feed-all seen empty-line → Closed seen (scene (s .desk) (s .line) (now (journal .entry)) (now (out .entry))) (scene (r .desk) (r .line) (now (journal .exit)) (now (out .exit)))) ⌝ }
+{
     let line = s.line;
     if 0 < line.len {
-        let last = ended(s, journal, out);
-        let desk = last.desk;
-        flushed(desk, out);
+        return ended(s, journal, out);
     }
+    s
+}
+
+fn finish(s: Sitting, journal: &mut [u8], out: &mut [u8])
+    requires { ⌜ (s .desk .len ≡ 0) × (length (now out) ≡ 304000) ⌝ }
+{
+    let last = closed(s, journal, out);
+    let desk = last.desk;
+    flushed(desk, out);
 }
 
 // A proved loop has to end, so the reads are counted down from a number that no run uses up.
-fn sit(journal: &mut [u8], out: &mut [u8]) {
+fn sit(journal: &mut [u8], out: &mut [u8])
+    requires { ⌜ length (now out) ≡ 304000 ⌝ }
+{
     let desk = desk::new();
     let line = Line::empty();
     let mut s = Sitting { desk, line };

@@ -6,7 +6,7 @@ use Rattle.stepper.proofs.sit.Statement.{statement}
 use Rattle.stepper.proofs.sit.Tie as tie
 
 abbrev Inv-loop : tie.InvT-loop
-Inv-loop journal₀ out₀ s₀ turns₀ go₀ journal out s turns go = (length journal ≡ length journal₀) × (length out ≡ length out₀)
+Inv-loop journal₀ out₀ s₀ turns₀ go₀ journal out s turns go = (length journal ≡ length journal₀) × (length out ≡ length out₀) × (s .desk .len ≡ 0)
 
 abbrev μ-loop : tie.MeasureT-loop
 μ-loop journal₀ out₀ s₀ turns₀ go₀ journal out s turns go = turns
