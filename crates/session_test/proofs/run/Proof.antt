@@ -1,0 +1,40 @@
+-- `session_test::run` meets its contract.
+use Prim.Native.Nat.{_≤_, _-_}
+use mathlib.Core.Path.{_≡_}
+use native.Mathlib.Omega.{arith}
+use lib.ListN.{length}
+use borrow.Author.Needs.{needs}
+use Rattle.session_test.proofs.run.Statement.{statement}
+use Rattle.session_test.proofs.run.Tie as tie
+
+abbrev Inv-loop : tie.InvT-loop
+Inv-loop script journal₀ kept₀ session₀ stored₀ lent₀ line₀ i₀ i-end journal kept session stored lent line i =
+    (i ≤ length script) × (length journal ≡ length journal₀) × (length kept ≡ length kept₀)
+
+abbrev μ-loop : tie.MeasureT-loop
+μ-loop script journal₀ kept₀ session₀ stored₀ lent₀ line₀ i₀ i-end journal kept session stored lent line i =
+    length script - i
+
+add-i : tie.Need-add-i Inv-loop μ-loop
+add-i c = let k = c .before .before .before .before .before .before .before .before .before .before .before in let g = k .before .before .before .before .before .before .before .before .before .good .0 in omega (arith, k .loop-test .taken, g)
+
+pub run-spec : {M : Type 1} → statement M
+run-spec =
+    tie.close
+    (tie.spec
+    Inv-loop
+    μ-loop
+    (λ c κs. search needs)
+    (λ c κs. search needs)
+    (λ c. search needs)
+    (λ c. search needs)
+    (λ c κs. search needs)
+    (λ c κs. search needs)
+    (λ c κs. search needs)
+    (λ c κs. search needs)
+    add-i
+    (λ c. search needs)
+    (λ c. search needs)
+    (λ c. search needs)
+    (λ c. search needs)
+    (λ c. search needs))

@@ -1,0 +1,169 @@
+// The commands of the script, over the session's entry points.
+use crate::fields::same;
+use crate::fields::with_field;
+use crate::line::Line;
+use libc::STDOUT_FILENO;
+use session::Answer;
+use state::Session;
+
+fn text(bytes: &[u8]) {
+    io::write_all(STDOUT_FILENO, bytes);
+}
+
+// A number and what stands after it.
+fn number(n: u64, after: &[u8]) {
+    io::print_decimal(STDOUT_FILENO, n);
+    io::write_all(STDOUT_FILENO, after);
+}
+
+// Two lower-case hexadecimal digits.
+fn pair(b: u8) {
+    io::print_hex(STDOUT_FILENO, b as u64, 2);
+}
+
+fn hex(bytes: &[u8]) {
+    for i in 0..bytes.len() {
+        pair(bytes[i]);
+    }
+}
+
+fn put(to: &mut [u8], i: usize, b: u8) {
+    if i < to.len() {
+        to[i] = b;
+    }
+}
+
+fn copy(from: &[u8], to: &mut [u8]) {
+    for i in 0..from.len() {
+        put(to, i, from[i]);
+    }
+}
+
+fn mixed(x: u64, b: u8) -> u64 {
+    (257 * (x % 1000000007) + b as u64 + 1) % 1000000007
+}
+
+fn low_byte(x: u64) -> u8 {
+    (x % 256) as u8
+}
+
+// Any bytes, from a seed.
+fn noise(seed: u16, journal: &mut [u8]) {
+    let mut x = seed as u64;
+    for i in 0..journal.len() {
+        x = mixed(x, 0);
+        put(journal, i, low_byte(x));
+    }
+}
+
+// A number that stands for all bytes.
+fn hash(bytes: &[u8]) -> u64 {
+    let mut x: u64 = 0;
+    for i in 0..bytes.len() {
+        x = mixed(x, bytes[i]);
+    }
+    x
+}
+
+// The picture, or the number that refuses it, and B.
+fn picture(session: Session) {
+    let state = session.state;
+    let mut bytes = [0u8; 296];
+    let refusal = snapshot::write(state, &mut bytes);
+    let long = 8 + 12 * (state.p as u16) + 8 * (state.m as u16) + 4 * (state.t as u16);
+    let n = io::count(long as isize, &bytes);
+    if refusal == 0 {
+        hex(&bytes[..n]);
+        text(b" ");
+    } else {
+        number(refusal as u64, b" ");
+    }
+    number(session.initial as u64, b"\n");
+}
+
+// Prints the refusal, whether a field of the record changed, and whether a byte of the journal did.
+fn reported(was: Session, answer: Answer, alike: bool) -> Session {
+    let session = answer.session;
+    number(answer.refusal as u64, b" ");
+    number(!same(was, session) as u64, b" ");
+    number(!alike as u64, b"\n");
+    session
+}
+
+fn start(session: Session, line: Line) -> Session {
+    let answer = session::start(line.byte(1), line.byte(2), line.byte(3), line.byte(4));
+    reported(session, answer, true)
+}
+
+fn make_move(session: Session, lent: isize, line: Line, journal: &mut [u8]) -> Session {
+    let mut before = [0u8; 12001];
+    copy(journal, &mut before);
+    let n = io::count(lent, journal);
+    let p = line.byte(1);
+    let a = line.byte(2);
+    let o = line.byte(3);
+    let answer = session::make_move(session, &mut journal[..n], p, a, o);
+    let alike = check::same(&before, journal);
+    reported(session, answer, alike)
+}
+
+fn back(session: Session, lent: isize, journal: &[u8]) -> Session {
+    let n = io::count(lent, journal);
+    let before = hash(journal);
+    let answer = session::undo(session, &journal[..n]);
+    let alike = before == hash(journal);
+    reported(session, answer, alike)
+}
+
+// Prints the refusal, the front's length and its bytes.
+fn front(session: Session, lent: isize, journal: &[u8]) {
+    let n = io::count(lent, journal);
+    let mut refusal: u8 = 0;
+    let bytes = session::front(session, &journal[..n], &mut refusal);
+    number(refusal as u64, b" ");
+    number(bytes.len() as u64, b" ");
+    hex(bytes);
+    text(b"\n");
+}
+
+// The commands that leave the record; keep copies the journal here, the record is kept by kept_after.
+fn look(session: Session, lent: isize, line: Line, journal: &mut [u8], kept: &mut [u8]) {
+    let word = line.word;
+    match word {
+        b'f' => front(session, lent, journal),
+        b'p' => picture(session),
+        b'h' => number(hash(journal), b"\n"),
+        b'w' => put(journal, line.number(1) as usize, line.byte(2)),
+        b'n' => noise(line.number(1), journal),
+        b'k' => copy(journal, kept),
+        b'l' | b'#' => {}
+        _ => text(b"?\n"),
+    }
+}
+
+// Obeys a line, whose word's first letter names the command. stored: the record that was kept; lent: how many bytes of the journal are lent.
+pub fn obey(
+    session: Session,
+    stored: Session,
+    lent: isize,
+    line: Line,
+    journal: &mut [u8],
+    kept: &mut [u8],
+) -> Session {
+    let word = line.word;
+    match word {
+        b's' => start(session, line),
+        b'm' => make_move(session, lent, line, journal),
+        b'b' => back(session, lent, journal),
+        b'c' => with_field(session, line.number(1), line.number(2)),
+        b'r' => stored,
+        b'a' => {
+            copy(kept, journal);
+            stored
+        }
+        _ => {
+            look(session, lent, line, journal, kept);
+            session
+        }
+    }
+}

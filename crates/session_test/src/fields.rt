@@ -1,0 +1,240 @@
+// The fields of a session's record by their numbers: 0 to 4 are P, T, M, the moves applied and B, 5 to 13 the queues' firsts, 14 to 85 the processors (8 each), 86 to 121 the mutexes (4 each), 122 to 220 the threads (3 each). Each table begins with its unused row 0.
+use crate::line::low;
+use state::Chains;
+use state::Mutex;
+use state::Processor;
+use state::Session;
+use state::State;
+use state::Thread;
+use state::Token;
+use state::chain::first_at;
+use state::chain::thread_at;
+use state::chain::with_first;
+use state::chain::with_thread;
+
+const FIELDS: u16 = 221;
+
+fn wide(b: u8) -> u16 {
+    b as u16
+}
+
+fn of_processor(r: Processor, f: u16) -> u16 {
+    let observed = r.observed;
+    match f {
+        0 => wide(r.position),
+        1 => wide(r.current),
+        2 => wide(r.transit),
+        3 => wide(r.mutex),
+        4 => wide(observed.processor),
+        5 => observed.sequence,
+        6 => r.sequence,
+        _ => wide(r.answer),
+    }
+}
+
+fn of_mutex(r: Mutex, f: u16) -> u16 {
+    let token = r.token;
+    match f {
+        0 => wide(r.count),
+        1 => wide(r.owner),
+        2 => wide(token.processor),
+        _ => token.sequence,
+    }
+}
+
+fn of_thread(r: Thread, f: u16) -> u16 {
+    match f {
+        0 => wide(r.status),
+        1 => wide(r.holder),
+        _ => wide(r.next),
+    }
+}
+
+fn of_numbers(session: Session, i: u16) -> u16 {
+    let state = session.state;
+    match i {
+        0 => wide(state.p),
+        1 => wide(state.t),
+        2 => wide(state.m),
+        3 => state.applied,
+        _ => wide(session.initial),
+    }
+}
+
+// Field i of a record.
+fn field(session: Session, i: u16) -> u16 {
+    let state = session.state;
+    let chains = state.chains;
+    if i < 5 {
+        return of_numbers(session, i);
+    }
+    if i < 14 {
+        let firsts = chains.firsts;
+        return wide(first_at(firsts, low(i - 5)));
+    }
+    if i < 86 {
+        let j = i - 14;
+        let r = state.processor(low(j / 8));
+        return of_processor(r, j % 8);
+    }
+    if i < 122 {
+        let j = i - 86;
+        let r = state.mutex(low(j / 4));
+        return of_mutex(r, j % 4);
+    }
+    let j = i - 122;
+    let threads = chains.threads;
+    let r = thread_at(threads, low(j / 3));
+    of_thread(r, j % 3)
+}
+
+pub fn same(a: Session, b: Session) -> bool {
+    let mut i: u16 = 0;
+    while i < FIELDS {
+        if field(a, i) != field(b, i) {
+            return false;
+        }
+        i += 1;
+    }
+    true
+}
+
+fn with_token(r: Token, f: u16, v: u16) -> Token {
+    let mut next = r;
+    match f {
+        0 => {
+            next.processor = low(v);
+        }
+        _ => {
+            next.sequence = v;
+        }
+    }
+    next
+}
+
+fn with_of_processor(r: Processor, f: u16, v: u16) -> Processor {
+    let mut next = r;
+    let b = low(v);
+    match f {
+        0 => {
+            next.position = b;
+        }
+        1 => {
+            next.current = b;
+        }
+        2 => {
+            next.transit = b;
+        }
+        3 => {
+            next.mutex = b;
+        }
+        4 | 5 => {
+            let observed = r.observed;
+            let token = with_token(observed, f - 4, v);
+            next.observed = token;
+        }
+        6 => {
+            next.sequence = v;
+        }
+        _ => {
+            next.answer = b;
+        }
+    }
+    next
+}
+
+fn with_of_mutex(r: Mutex, f: u16, v: u16) -> Mutex {
+    let mut next = r;
+    let b = low(v);
+    match f {
+        0 => {
+            next.count = b;
+        }
+        1 => {
+            next.owner = b;
+        }
+        2 | 3 => {
+            let before = r.token;
+            let token = with_token(before, f - 2, v);
+            next.token = token;
+        }
+        _ => {}
+    }
+    next
+}
+
+fn with_of_thread(r: Thread, f: u16, b: u8) -> Thread {
+    let mut next = r;
+    match f {
+        0 => {
+            next.status = b;
+        }
+        1 => {
+            next.holder = b;
+        }
+        _ => {
+            next.next = b;
+        }
+    }
+    next
+}
+
+// The state with field i, any but B, set to v.
+fn with_state(state: State, i: u16, v: u16) -> State {
+    let mut next = state;
+    let b = low(v);
+    let chains = state.chains;
+    let firsts = chains.firsts;
+    let threads = chains.threads;
+    if i < 5 {
+        match i {
+            0 => {
+                next.p = b;
+            }
+            1 => {
+                next.t = b;
+            }
+            2 => {
+                next.m = b;
+            }
+            _ => {
+                next.applied = v;
+            }
+        }
+        return next;
+    }
+    if i < 14 {
+        let firsts = with_first(firsts, low(i - 5), b);
+        return state.with_chains(Chains { firsts, threads });
+    }
+    if i < 86 {
+        let j = i - 14;
+        let p = low(j / 8);
+        let r = state.processor(p);
+        return state.with_processor(p, with_of_processor(r, j % 8, v));
+    }
+    if i < 122 {
+        let j = i - 86;
+        let m = low(j / 4);
+        let r = state.mutex(m);
+        return state.with_mutex(m, with_of_mutex(r, j % 4, v));
+    }
+    let j = i - 122;
+    let k = low(j / 3);
+    let r = thread_at(threads, k);
+    let threads = with_thread(threads, k, with_of_thread(r, j % 3, b));
+    state.with_chains(Chains { firsts, threads })
+}
+
+// The record with field i set to v.
+pub fn with_field(session: Session, i: u16, v: u16) -> Session {
+    let mut next = session;
+    if i == 4 {
+        next.initial = low(v);
+        return next;
+    }
+    let state = session.state;
+    let changed = with_state(state, i, v);
+    next.state = changed;
+    next
+}

@@ -1,0 +1,20 @@
+//! Writes the script of the program `session_test` and the answers it must give, as the files
+//! `stdin` and `stdout` of the folder given as argument.
+
+mod bench;
+mod script;
+
+use std::path::Path;
+use std::{env, fs, io};
+
+fn main() -> io::Result<()> {
+    let Some(folder) = env::args_os().nth(1) else {
+        eprintln!("usage: session_test FOLDER");
+        std::process::exit(2);
+    };
+    let folder = Path::new(&folder);
+    let script = script::whole();
+    fs::create_dir_all(folder)?;
+    fs::write(folder.join("stdout"), bench::answers(&script))?;
+    fs::write(folder.join("stdin"), script)
+}

@@ -1,0 +1,568 @@
+//! The script: the sessions of document 01, and each refusal at its boundaries.
+
+use crate::bench::{first, mutex, processor, thread, Fields, APPLIED, BORN, FIELDS};
+use independent::machine::{
+    Config, Move, Position, State, CREATE, EXIT, GO, LOCK, TRYLOCK, UNLOCK, YIELD,
+};
+use independent::random::{Call, Driver, Rates};
+use independent::record::Record;
+use independent::session::JOURNAL;
+use independent::worked::{self, Worked};
+use std::fmt::Write;
+
+/// The least length of a journal, one byte less and one more.
+const LENGTHS: [usize; 3] = [JOURNAL - 1, JOURNAL, JOURNAL + 1];
+const MOST: u16 = 4_000;
+
+#[derive(Default)]
+struct Script(String);
+
+impl Script {
+    fn say(&mut self, line: &str) {
+        self.0.push_str(line);
+        self.0.push('\n');
+    }
+
+    fn all(&mut self, lines: &[&str]) {
+        lines.iter().for_each(|line| self.say(line));
+    }
+
+    fn start(&mut self, config: Config) {
+        let Config { processors, threads, mutexes, born } = config;
+        writeln!(self.0, "start {processors} {threads} {mutexes} {born}").unwrap();
+    }
+
+    fn make(&mut self, [p, a, o]: Move) {
+        writeln!(self.0, "move {p} {a} {o}").unwrap();
+    }
+
+    fn change(&mut self, field: usize, value: u16) {
+        writeln!(self.0, "change {field} {value}").unwrap();
+    }
+
+    fn write(&mut self, at: usize, byte: u8) {
+        writeln!(self.0, "write {at} {byte}").unwrap();
+    }
+
+    fn lend(&mut self, length: usize) {
+        writeln!(self.0, "lend {length}").unwrap();
+    }
+
+    fn played(&mut self, worked: &Worked) {
+        self.start(worked.config);
+        worked.moves.iter().for_each(|&made| self.make(made));
+    }
+
+    /// Tries a move and brings record and journal back.
+    fn try_move(&mut self, made: Move) {
+        self.make(made);
+        self.say("again");
+    }
+
+    /// Sets all fields that differ from the all-zero record's, which a refused start gives.
+    fn load(&mut self, record: &Record) {
+        self.start(Config::new(0, 0, 0, 0));
+        let fields = Fields::of(record);
+        for i in (0..FIELDS).filter(|&i| fields.at(i) != 0) {
+            self.change(i, fields.at(i));
+        }
+    }
+}
+
+/// Every call, with an operand that fits.
+fn calls(p: u8) -> [Move; 6] {
+    [[p, LOCK, 1], [p, TRYLOCK, 1], [p, UNLOCK, 1], [p, YIELD, 0], [p, EXIT, 0], [p, CREATE, 1]]
+}
+
+/// 1: all combinations of the boundaries. A refused start's record is all zero.
+fn starts(s: &mut Script) {
+    s.say("# K1, K2, K3");
+    for (p, b) in [(8, 32), (9, 32), (8, 0)] {
+        s.start(Config::new(p, 32, 8, b));
+        s.all(&["picture", "move 1 0 0", "move 1 4 0", "back", "front"]);
+    }
+    s.say("# 1 at its boundaries");
+    for p in [0, 1, 8, 9, 255] {
+        for t in [0u8, 1, 32, 33, 255] {
+            for m in [0, 1, 8, 9, 255] {
+                for b in [0, 1, t, t.wrapping_add(1)] {
+                    s.start(Config::new(p, t, m, b));
+                }
+            }
+        }
+    }
+    for (p, t, m, b) in
+        [(1, 1, 1, 1), (1, 2, 1, 1), (2, 5, 2, 4), (3, 5, 1, 2), (8, 32, 8, 1), (8, 9, 3, 9)]
+    {
+        s.start(Config::new(p, t, m, b));
+        s.say("picture");
+    }
+}
+
+/// A session with its pictures, each move after what is refused by 4 or 5 there, then back to
+/// its start.
+fn there_and_back(s: &mut Script, name: &str, worked: &Worked) {
+    writeln!(s.0, "# {name}").unwrap();
+    s.start(worked.config);
+    s.say("picture");
+    let mut state = State::start(worked.config);
+    for &made in &worked.moves {
+        let p = made[0];
+        if state.processor(p).position == Position::App {
+            s.make([p, GO, 0]);
+        } else {
+            calls(p).into_iter().for_each(|call| s.make(call));
+        }
+        s.make(made);
+        s.say("picture");
+        state.try_move(made).expect("worked moves are accepted");
+    }
+    s.all(&["front", "hash"]);
+    for _ in &worked.moves {
+        s.all(&["back", "picture"]);
+    }
+    s.all(&["back", "front", "hash"]);
+}
+
+/// Creates, yields and exits.
+fn tour() -> Worked {
+    Worked::new(Config::new(2, 4, 1, 1))
+        .call(1, CREATE, 3)
+        .go(1, 1)
+        .go(2, 2)
+        .call(2, CREATE, 2)
+        .go(2, 1)
+        .call(1, YIELD, 0)
+        .go(1, 5)
+        .call(2, EXIT, 0)
+        .go(2, 2)
+        .call(2, YIELD, 0)
+        .go(2, 1)
+        .call(1, EXIT, 0)
+        .go(1, 2)
+}
+
+fn worked_sessions(s: &mut Script) {
+    s.say("noise 1");
+    there_and_back(s, "K4", &worked::k4());
+    there_and_back(s, "K5", &worked::k5());
+    s.say("noise 2");
+    there_and_back(s, "K6", &worked::k6());
+    there_and_back(s, "K7", &worked::k7());
+    there_and_back(s, "K8 by moves", &worked::k8());
+    there_and_back(s, "creates, yields, exits", &tour());
+    s.say("# K8 with its record");
+    s.load(&worked::k8_record());
+    s.all(&["picture", "move 2 0 0", "picture", "front", "back"]);
+    s.say("# K9");
+    s.played(&Worked::new(Config::new(2, 2, 1, 2)).call(1, LOCK, 1).go(1, 1));
+    s.all(&["move 2 3 1", "picture", "move 1 3 1", "picture"]);
+    s.say("# K10 with its records");
+    for applied in [MOST - 1, MOST, MOST + 1] {
+        s.say("noise 3");
+        s.load(&worked::k10_record(applied));
+        s.all(&["picture", "move 2 0 0", "picture", "hash", "move 2 0 0", "hash"]);
+    }
+    s.say("# Run");
+    for length in [JOURNAL, JOURNAL - 1] {
+        s.start(Config::new(1, 1, 1, 1));
+        s.lend(length);
+        s.all(&["move 1 1 1", "front", "hash"]);
+    }
+    s.lend(JOURNAL + 1);
+}
+
+/// 2 and 3 at the boundaries of processor, action and operand, at App and elsewhere.
+fn wrong_moves(s: &mut Script) {
+    for (p, t, m, b) in [(1, 1, 1, 1), (2, 3, 2, 2), (8, 32, 8, 32)] {
+        writeln!(s.0, "# 2, 3 with {p} processors, {t} threads, {m} mutexes").unwrap();
+        for locks in [false, true] {
+            s.start(Config::new(p, t, m, b));
+            if locks {
+                s.make([1, LOCK, 1]);
+            }
+            s.say("keep");
+            for wrong in [0, p, p + 1, 255] {
+                for made in [[wrong, GO, 0], [wrong, LOCK, m], [wrong, 7, 0], [wrong, 255, 255]] {
+                    s.try_move(made);
+                }
+            }
+            let mut operands = vec![0, 1, m, m + 1, t, t + 1, 255];
+            operands.sort_unstable();
+            operands.dedup();
+            for action in [0, 1, 2, 3, 4, 5, 6, 7, 128, 255] {
+                operands.iter().for_each(|&operand| s.try_move([1, action, operand]));
+            }
+            s.say("# 8 comes after 2 and 3 and before the rest");
+            s.change(APPLIED, MOST);
+            for made in [[0, 9, 9], [p + 1, GO, 0], [1, 7, 0], [1, GO, 1], [1, LOCK, m + 1]] {
+                s.make(made);
+            }
+            for made in [[1, GO, 0], [1, LOCK, 1], [1, UNLOCK, 1], [1, CREATE, t], [p, EXIT, 0]] {
+                s.make(made);
+            }
+        }
+    }
+}
+
+/// 6: nobody owns, another does, the owner has yielded, runs again, has exited.
+fn strangers(s: &mut Script) {
+    s.say("# 6");
+    let begun = Worked::new(Config::new(1, 2, 2, 2));
+    let owning = begun.clone().call(1, LOCK, 1).go(1, 1);
+    let yielded = owning.clone().call(1, YIELD, 0).go(1, 5);
+    let runs = yielded.clone().call(1, YIELD, 0).go(1, 5);
+    let unlocked = runs.clone().call(1, UNLOCK, 1).go(1, 1);
+    let exited = owning.clone().call(1, EXIT, 0).go(1, 2);
+    for one in [begun, owning, yielded, runs, unlocked, exited, worked::k6(), worked::k7()] {
+        s.played(&one);
+        s.say("keep");
+        for p in 1..=one.config.processors {
+            for m in 1..=one.config.mutexes {
+                s.try_move([p, UNLOCK, m]);
+            }
+        }
+        s.say("hash");
+    }
+}
+
+/// 7: threads new, ready, waiting, current, in transit and terminated.
+fn creates(s: &mut Script) {
+    s.say("# 7");
+    let config = Config::new(3, 7, 1, 5);
+    let mixed = Worked::new(config)
+        .call(1, LOCK, 1)
+        .go(1, 1)
+        .call(2, LOCK, 1)
+        .go(2, 4)
+        .call(3, EXIT, 0)
+        .go(3, 1)
+        .go(2, 2);
+    for one in [mixed.clone(), mixed.call(1, CREATE, 7).go(1, 1)] {
+        s.played(&one);
+        s.all(&["picture", "keep"]);
+        for p in [1, 2, 3] {
+            for t in 0..=config.threads + 1 {
+                s.try_move([p, CREATE, t]);
+            }
+        }
+        s.say("hash");
+    }
+}
+
+/// 9, and the order 10, 15, 9, 16: a journal of any bytes is no cause where nothing is applied.
+fn steps_back_with_none(s: &mut Script) {
+    s.say("# 9");
+    s.say("noise 4");
+    for config in [Config::new(1, 1, 1, 1), Config::new(8, 32, 8, 20)] {
+        s.start(config);
+        for length in LENGTHS {
+            s.lend(length);
+            s.all(&["back", "front"]);
+        }
+        s.say("keep");
+        for born in [0, u16::from(config.threads) + 1] {
+            s.change(BORN, born);
+            s.all(&["back", "again"]);
+        }
+    }
+    s.say("# nothing applied, and yet not the start's state");
+    s.played(&worked::k5());
+    s.change(APPLIED, 0);
+    s.all(&["back", "move 1 1 1", "front", "back"]);
+}
+
+/// 10 for move, step back and front, before every other number.
+fn short_journals(s: &mut Script) {
+    s.say("# 10");
+    let k7 = worked::k7();
+    for length in [0, 1, JOURNAL - 3, JOURNAL - 2].into_iter().chain(LENGTHS) {
+        s.say("noise 5");
+        s.played(&k7);
+        s.say("keep");
+        s.lend(length);
+        for made in [[1, LOCK, 1], [1, GO, 0], [9, 9, 9], [1, UNLOCK, 1]] {
+            s.try_move(made);
+        }
+        s.all(&["front", "back", "front", "hash", "again"]);
+        for (field, value) in [(BORN, 0), (APPLIED, 0), (APPLIED, MOST), (processor(0, 0), 1)] {
+            s.change(field, value);
+            s.try_move([9, 9, 9]);
+            s.change(field, value);
+            s.say("back");
+            if value != MOST {
+                s.say("front");
+            }
+            s.say("again");
+        }
+        s.change(APPLIED, MOST - 1);
+        s.all(&["move 1 1 1", "hash"]);
+        s.lend(JOURNAL + 1);
+    }
+}
+
+/// The highest value that field i's rule allows in a record of these sizes; rows 0 and rows past
+/// the sizes are zero.
+fn highest(fields: &Fields, i: usize) -> u16 {
+    let [p, t, m] = [fields.at(0), fields.at(1), fields.at(2)];
+    let within = |row: usize, size: u16, high: u16| {
+        if (1..=usize::from(size)).contains(&row) {
+            high
+        } else {
+            0
+        }
+    };
+    match i {
+        0 | 2 => 8,
+        1 => 32,
+        APPLIED => MOST,
+        BORN => t,
+        5 => t,
+        6..=13 => within(i - 5, m, t),
+        14..=85 => within((i - 14) / 8, p, [24, t, t, m, p, MOST, MOST, 2][(i - 14) % 8]),
+        86..=121 => within((i - 86) / 4, m, [t + 1, t, p, MOST][(i - 86) % 4]),
+        _ => within((i - 122) / 3, t, [5, p.max(m), t][(i - 122) % 3]),
+    }
+}
+
+/// Values that a field does not have: around its own, its rule's highest and one more, the
+/// largest of all.
+fn damages(fields: &Fields, i: usize, few: bool) -> Vec<u16> {
+    let (value, high) = (fields.at(i), highest(fields, i));
+    if high == 0 {
+        return vec![1];
+    }
+    let mut values = vec![0, value.wrapping_add(1), high + 1];
+    if !few {
+        values.extend([value.saturating_sub(1), high, 65_535]);
+    }
+    values.sort_unstable();
+    values.dedup();
+    values.retain(|&one| one != value && (i != APPLIED || one != high));
+    values
+}
+
+/// 15 (record): each field of a record damaged, then a move, a step back and the front.
+fn damaged(s: &mut Script, name: &str, record: &Record, made: Move, few: bool) {
+    writeln!(s.0, "# 15: fields of {name}").unwrap();
+    s.all(&["keep", "picture"]);
+    let fields = Fields::of(record);
+    let [p, a, o] = made;
+    for i in 0..FIELDS {
+        for value in damages(&fields, i, few) {
+            write!(s.0, "c {i} {value}\nb\nf\nm {p} {a} {o}\na\n").unwrap();
+        }
+    }
+    s.say("hash");
+}
+
+/// An accepted session of random moves.
+fn random(config: Config, seed: u64, count: usize) -> Worked {
+    let mut driver = Driver::new(seed, Rates::ACCEPTED);
+    let mut state = State::start(config);
+    let mut worked = Worked::new(config);
+    for _ in 0..count {
+        let made = driver.likely_move(&state);
+        state.try_move(made).expect("a likely move is accepted");
+        worked = worked.call(made[0], made[1], made[2]);
+    }
+    worked
+}
+
+fn damaged_records(s: &mut Script) {
+    let k7 = worked::k7();
+    let at_gt3 = k7.front(k7.moves.len() - 3);
+    let full = random(Config::new(8, 32, 8, 20), 5, 60);
+    for (name, one, made, few) in
+        [("K7 at GT3", at_gt3, [3, GO, 0], false), ("a full record", full, [0, GO, 0], true)]
+    {
+        s.say("noise 6");
+        s.played(&one);
+        let record = Record { snapshot: one.snapshot(), born: one.config.born };
+        damaged(s, name, &record, made, few);
+    }
+}
+
+/// 15 (step): a line that would leave the rules, one less, and what comes before it.
+fn damaging_steps(s: &mut Script) {
+    s.say("# 15: steps");
+    for (name, record, p) in worked::steps_out_of_rules() {
+        writeln!(s.0, "# at {name}").unwrap();
+        s.load(&record);
+        s.all(&["keep", "picture"]);
+        for made in [[p, GO, 0], [p, LOCK, 1], [p, GO, 1], [9, GO, 0]] {
+            s.try_move(made);
+        }
+        s.change(APPLIED, MOST);
+        s.try_move([p, GO, 0]);
+        let (field, value) = match name {
+            "L1" => (mutex(1, 0), 1),
+            "TL3" => (mutex(1, 0), 3),
+            "U1" => (mutex(1, 0), 1),
+            "H5" => (processor(1, 6), MOST - 1),
+            _ => (first(1), 2),
+        };
+        s.change(field, value);
+        if name == "L9" {
+            s.change(thread(2, 0), 2);
+            s.change(thread(2, 1), 1);
+        }
+        s.all(&["picture", &format!("move {p} 0 0"), "picture", "front", "hash"]);
+    }
+}
+
+/// 16: bytes of the standing moves changed one by one, bytes after them, another journal.
+fn other_journals(s: &mut Script) {
+    for (name, worked) in [("K5", worked::k5()), ("K7", worked::k7())] {
+        writeln!(s.0, "# 16: bytes of {name}").unwrap();
+        s.say("noise 7");
+        s.played(&worked);
+        s.say("keep");
+        let bytes = worked.moves.concat();
+        for (at, &byte) in bytes.iter().enumerate() {
+            for other in [byte ^ 1, byte + 8, 255] {
+                s.write(at, other);
+                s.all(&["back", "again"]);
+            }
+        }
+        for at in [bytes.len(), bytes.len() + 1, JOURNAL - 1, JOURNAL] {
+            s.write(at, 77);
+            s.all(&["back", "picture", "again"]);
+        }
+        s.say("hash");
+    }
+    s.say("# 16: the journal of another session, at a step back and at a move");
+    s.played(&worked::k5());
+    s.say("keep");
+    s.played(&worked::k6());
+    s.all(&["recall", "back", "hash", "front", "move 2 4 0", "hash", "front", "back"]);
+    s.all(&["again", "back", "hash"]);
+    s.say("# 16: the same moves from another start");
+    s.played(&worked::k5());
+    s.say("keep");
+    for (field, value) in [(BORN, 1), (1, 3), (2, 2), (APPLIED, 15), (APPLIED, 17)] {
+        s.change(field, value);
+        s.all(&["back", "again"]);
+    }
+    s.say("noise 8");
+    s.all(&["back", "again", "back", "picture"]);
+}
+
+/// Short forms of the words, for long lists.
+fn short_move([p, a, o]: Move) -> String {
+    format!("m {p} {a} {o}")
+}
+
+/// Random sessions with refused calls and steps back.
+fn random_sessions(s: &mut Script) {
+    for (seed, (p, t, m, b)) in
+        (1..).zip([(2, 3, 1, 3), (3, 4, 2, 2), (5, 9, 2, 9), (8, 32, 8, 12)])
+    {
+        let config = Config::new(p, t, m, b);
+        writeln!(s.0, "# random session {seed}").unwrap();
+        writeln!(s.0, "noise {seed}").unwrap();
+        s.start(config);
+        let mut driver = Driver::new(seed, Rates { refused: 8, undo: 30 });
+        let mut states = vec![State::start(config)];
+        for count in 1..=250 {
+            let state = states.last().expect("a start");
+            match driver.next_call(state) {
+                Call::Move(made) => {
+                    s.say(&short_move(made));
+                    let mut next = state.clone();
+                    if next.try_move(made).is_ok() {
+                        states.push(next);
+                    }
+                }
+                Call::Undo => {
+                    s.say("b");
+                    if states.len() > 1 {
+                        states.pop();
+                    }
+                }
+            }
+            if count % 25 == 0 {
+                s.say("p");
+            }
+        }
+        s.all(&["front", "hash"]);
+    }
+}
+
+/// 4,000 moves, the refused ones after them, steps back from the end, other moves again.
+fn longest(s: &mut Script) {
+    s.say("# 4,000 moves");
+    let worked = random(Config::new(8, 32, 8, 24), 9, usize::from(MOST));
+    s.say("noise 9");
+    s.start(worked.config);
+    for (count, &made) in (1..).zip(&worked.moves) {
+        s.say(&short_move(made));
+        if count % 500 == 0 {
+            s.all(&["p", "h"]);
+        }
+    }
+    s.all(&["hash"]);
+    full(s);
+    for length in LENGTHS {
+        s.lend(length);
+        s.say("front");
+    }
+    s.say("# 16 at the ends of a full journal");
+    let bytes = worked.moves.concat();
+    for at in [0, 1, 2, JOURNAL / 2, JOURNAL - 3, JOURNAL - 2, JOURNAL - 1] {
+        s.write(at, bytes[at] ^ 1);
+        s.all(&["back", "again"]);
+    }
+    s.write(JOURNAL, 77);
+    s.all(&["back", "picture", "again"]);
+    s.say("# steps back from the end, and other moves");
+    let less = 24;
+    for count in 1..=less {
+        s.say("back");
+        if count % 6 == 0 {
+            s.all(&["picture", "hash"]);
+        }
+    }
+    let mut state = worked.front(worked.moves.len() - less).state();
+    let mut driver = Driver::new(10, Rates::ACCEPTED);
+    for _ in 0..less {
+        let made = driver.likely_move(&state);
+        state.try_move(made).expect("a likely move is accepted");
+        s.make(made);
+    }
+    s.all(&["picture", "hash"]);
+    full(s);
+    s.all(&["back", "picture", "hash", "move 9 9 9", "back", "hash"]);
+}
+
+/// With 4,000 moves applied: the refused 4,001st, and each length lent.
+fn full(s: &mut Script) {
+    s.say("# the 4,001st");
+    for made in [[1, GO, 0], [1, LOCK, 1], [9, GO, 0], [1, 7, 0], [8, UNLOCK, 1], [8, GO, 0]] {
+        s.make(made);
+    }
+    s.say("keep");
+    for length in LENGTHS {
+        s.lend(length);
+        s.all(&["move 1 0 0", "back", "hash", "again"]);
+    }
+}
+
+/// The whole script.
+pub fn whole() -> String {
+    let mut script = Script::default();
+    let s = &mut script;
+    starts(s);
+    worked_sessions(s);
+    wrong_moves(s);
+    strangers(s);
+    creates(s);
+    steps_back_with_none(s);
+    short_journals(s);
+    damaged_records(s);
+    damaging_steps(s);
+    other_journals(s);
+    random_sessions(s);
+    longest(s);
+    script.0
+}
