@@ -142,7 +142,7 @@ fn look(session: Session, lent: isize, line: Line, journal: &mut [u8], kept: &mu
 }
 
 // Obeys a line, whose word's first letter names the command. stored: the record that was kept; lent: how many bytes of the journal are lent.
-pub fn obey(
+pub(crate) fn obey(
     session: Session,
     stored: Session,
     lent: isize,

@@ -88,7 +88,7 @@ fn field(session: Session, i: u16) -> u16 {
     of_thread(r, j % 3)
 }
 
-pub fn same(a: Session, b: Session) -> bool {
+pub(crate) fn same(a: Session, b: Session) -> bool {
     let mut i: u16 = 0;
     while i < FIELDS {
         if field(a, i) != field(b, i) {
@@ -227,7 +227,7 @@ fn with_state(state: State, i: u16, v: u16) -> State {
 }
 
 // The record with field i set to v.
-pub fn with_field(session: Session, i: u16, v: u16) -> Session {
+pub(crate) fn with_field(session: Session, i: u16, v: u16) -> Session {
     let mut next = session;
     if i == 4 {
         next.initial = low(v);

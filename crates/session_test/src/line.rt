@@ -6,7 +6,7 @@ pub struct Line {
 }
 
 // A number of the script as a byte.
-pub fn low(n: u16) -> u8 {
+pub(crate) fn low(n: u16) -> u8 {
     (n % 256) as u8
 }
 
@@ -20,7 +20,7 @@ fn longer(n: u16, b: u8) -> u16 {
 }
 
 impl Line {
-    pub fn empty() -> Line {
+    pub(crate) fn empty() -> Line {
         let numbers = [0u16; 5];
         Line {
             word: 0,
@@ -30,17 +30,17 @@ impl Line {
     }
 
     // Number i stands after the i-th space.
-    pub fn number(self, i: usize) -> u16 {
+    pub(crate) fn number(self, i: usize) -> u16 {
         if i < 5 { self.numbers[i] } else { 0 }
     }
 
-    pub fn byte(self, i: usize) -> u8 {
+    pub(crate) fn byte(self, i: usize) -> u8 {
         let n = self.number(i);
         low(n)
     }
 
     // A line feed begins the next line.
-    pub fn fed(mut self, b: u8) -> Line {
+    pub(crate) fn fed(mut self, b: u8) -> Line {
         let i = self.at;
         if b == b'\n' {
             return Line::empty();

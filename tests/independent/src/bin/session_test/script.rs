@@ -53,10 +53,15 @@ impl Script {
         worked.moves.iter().for_each(|&made| self.make(made));
     }
 
+    /// A move in its short form.
+    fn short(&mut self, [p, a, o]: Move) {
+        writeln!(self.0, "m {p} {a} {o}").unwrap();
+    }
+
     /// Tries a move and brings record and journal back.
     fn try_move(&mut self, made: Move) {
-        self.make(made);
-        self.say("again");
+        self.short(made);
+        self.say("a");
     }
 
     /// Sets all fields that differ from the all-zero record's, which a refused start gives.
@@ -109,17 +114,20 @@ fn there_and_back(s: &mut Script, name: &str, worked: &Worked) {
     for &made in &worked.moves {
         let p = made[0];
         if state.processor(p).position == Position::App {
-            s.make([p, GO, 0]);
+            s.short([p, GO, 0]);
         } else {
-            calls(p).into_iter().for_each(|call| s.make(call));
+            calls(p).into_iter().for_each(|call| s.short(call));
         }
         s.make(made);
         s.say("picture");
         state.try_move(made).expect("worked moves are accepted");
     }
     s.all(&["front", "hash"]);
-    for _ in &worked.moves {
-        s.all(&["back", "picture"]);
+    for left in (0..worked.moves.len()).rev() {
+        s.say("back");
+        if left % 3 == 0 {
+            s.say("picture");
+        }
     }
     s.all(&["back", "front", "hash"]);
 }
@@ -142,6 +150,20 @@ fn tour() -> Worked {
         .go(1, 2)
 }
 
+/// What the sessions above leave out: a trylock that succeeds at once, one that finds no token,
+/// an unlock with nobody waiting, L7 with an empty queue, GT3 with another token.
+fn other_outcomes() -> Worked {
+    let mut first = Worked::new(Config::new(3, 3, 1, 3))
+        .call(1, TRYLOCK, 1)
+        .go(1, 1)
+        .call(2, TRYLOCK, 1)
+        .go(2, 2)
+        .call(1, UNLOCK, 1)
+        .go(1, 1);
+    first.moves.extend(worked::session_s(3).moves);
+    first.go(2, 3).call(3, TRYLOCK, 1).go(3, 2).go(1, 4).go(2, 1).go(3, 1)
+}
+
 fn worked_sessions(s: &mut Script) {
     s.say("noise 1");
     there_and_back(s, "K4", &worked::k4());
@@ -151,6 +173,7 @@ fn worked_sessions(s: &mut Script) {
     there_and_back(s, "K7", &worked::k7());
     there_and_back(s, "K8 by moves", &worked::k8());
     there_and_back(s, "creates, yields, exits", &tour());
+    there_and_back(s, "other outcomes", &other_outcomes());
     s.say("# K8 with its record");
     s.load(&worked::k8_record());
     s.all(&["picture", "move 2 0 0", "picture", "front", "back"]);
@@ -372,7 +395,7 @@ fn random(config: Config, seed: u64, count: usize) -> Worked {
 fn damaged_records(s: &mut Script) {
     let k7 = worked::k7();
     let at_gt3 = k7.front(k7.moves.len() - 3);
-    let full = random(Config::new(8, 32, 8, 20), 5, 60);
+    let full = random(Config::new(8, 32, 8, 20), 5, 40);
     for (name, one, made, few) in
         [("K7 at GT3", at_gt3, [3, GO, 0], false), ("a full record", full, [0, GO, 0], true)]
     {
@@ -448,11 +471,6 @@ fn other_journals(s: &mut Script) {
     s.all(&["back", "again", "back", "picture"]);
 }
 
-/// Short forms of the words, for long lists.
-fn short_move([p, a, o]: Move) -> String {
-    format!("m {p} {a} {o}")
-}
-
 /// Random sessions with refused calls and steps back.
 fn random_sessions(s: &mut Script) {
     for (seed, (p, t, m, b)) in
@@ -468,7 +486,7 @@ fn random_sessions(s: &mut Script) {
             let state = states.last().expect("a start");
             match driver.next_call(state) {
                 Call::Move(made) => {
-                    s.say(&short_move(made));
+                    s.short(made);
                     let mut next = state.clone();
                     if next.try_move(made).is_ok() {
                         states.push(next);
@@ -496,12 +514,12 @@ fn longest(s: &mut Script) {
     s.say("noise 9");
     s.start(worked.config);
     for (count, &made) in (1..).zip(&worked.moves) {
-        s.say(&short_move(made));
+        s.short(made);
         if count % 500 == 0 {
             s.all(&["p", "h"]);
         }
     }
-    s.all(&["hash"]);
+    s.say("hash");
     full(s);
     for length in LENGTHS {
         s.lend(length);
@@ -516,10 +534,10 @@ fn longest(s: &mut Script) {
     s.write(JOURNAL, 77);
     s.all(&["back", "picture", "again"]);
     s.say("# steps back from the end, and other moves");
-    let less = 24;
+    let less = 100;
     for count in 1..=less {
         s.say("back");
-        if count % 6 == 0 {
+        if count % 25 == 0 {
             s.all(&["picture", "hash"]);
         }
     }
