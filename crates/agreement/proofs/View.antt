@@ -10,9 +10,9 @@ use lib.Dec.{eqb}
 use lib.ListN.{getD}
 use borrow.Author.Tests.{lt-ltb, ne-eqb}
 use Rattle.state.specs.declared.Mutex.{Mutex}
-use Rattle.state.specs.declared.chain.Taken.{Taken}
-use Rattle.state.specs.declared.chain.Taken.the-variants as answer
-use Rattle.state.specs.declared.chain.Taken.the-variants.{Nothing}
+use Rattle.state.specs.declared.queues.Taken.{Taken}
+use Rattle.state.specs.declared.queues.Taken.the-variants as answer
+use Rattle.state.specs.declared.queues.Taken.the-variants.{Nothing}
 use Rattle.state.specs.Association.{encode, processor-record, mutex-record, token-record, queue-at}
 use Rattle.step.specs.declared.View as code
 use Rattle.step.specs.declared.Effect.{Effect}

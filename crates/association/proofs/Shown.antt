@@ -22,8 +22,8 @@ use Rattle.state.specs.declared.Thread.{Thread}
 use Rattle.state.specs.declared.Processor.{Processor}
 use Rattle.state.specs.declared.Mutex.{Mutex}
 use Rattle.state.specs.declared.State.{State}
-use Rattle.state.specs.declared.chain.Taken.the-variants as answer
-use Rattle.state.specs.declared.chain.Taken.the-variants.{Nothing}
+use Rattle.state.specs.declared.queues.Taken.the-variants as answer
+use Rattle.state.specs.declared.queues.Taken.the-variants.{Nothing}
 use Rattle.state.specs.Model.{taken}
 use Rattle.state.specs.Record.{zero-thread, zero-processor, zero-mutex, thread-of, processor-of, mutex-of, first-of}
 use Rattle.state.specs.Association.{encode, processor-record, mutex-record, thread-record, thread-row, queue-at}

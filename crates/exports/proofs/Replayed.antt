@@ -15,7 +15,9 @@ use Rattle.state.specs.Association.{encode}
 use Rattle.state.specs.Model.{start-record}
 use Rattle.shown.proofs.Reached.{reached-allowed}
 use Rattle.step.specs.declared.Moved.{Moved}
-use Rattle.step.specs.Model.{moved-of}
+use Rattle.step.specs.declared.Run.{Run}
+use Rattle.step.specs.Model.{moved-of, run-of}
+use Rattle.step.proofs.InPlace.{Ends, run-ends}
 use Rattle.reference.specs.Lists.{if-zero}
 use Rattle.reference.specs.State.{State}
 use Rattle.reference.specs.Start.{Config, config-cause, start}
@@ -127,3 +129,28 @@ module _ (c : Config) (right : config-cause c ≡ 0) (j : List ℕ) where
 
     pub going-end : length j % 3 ≡ 0 → i ≡ length j / 3 → Replays c j (record { refusal = 0; place = 0; state = s })
     going-end z e = finds 0 0 (replay-end here i (drop (3 * i) j) (omega (arith, length-drop (3 * i) j)))
+
+-- ---- the code's replay, as a whole
+
+module _ (c : Config) (right : config-cause c ≡ 0) (j : List ℕ) where
+  more : (i : ℕ) (x : Record) → Going c j i x → i < length j / 3 → moved-of x (getD j (3 * i) 0) (getD j (3 * i + 1) 0) (getD j (3 * i + 2) 0) .refusal ≡ 0 →
+      Going c j (i + 1) (moved-of x (getD j (3 * i) 0) (getD j (3 * i + 1) 0) (getD j (3 * i + 2) 0) .state)
+  more i x g l z = going-more c right j i x g _ refl (omega arith) z
+
+  module _ (s : Record) (e : s ≡ start-record (c .P) (c .T) (c .M) (c .B)) (r : Run) (ran : r ≡ run-of s j) where
+    ends : Ends j (Going c j) (length j / 3) more r
+    ends = rw ran (run-ends j (Going c j) (length j / 3) more (length j / 3) 0 s (going-start c right j s e) (omega arith))
+
+    pub ends-most : r .made ≤ 4000
+    ends-most = ends .reached .most
+
+    pub ends-refused : (r .refusal ≡ 0 → ⊥) → Replays c j (record { refusal = r .refusal; place = r .made + 1; state = r .state })
+    ends-refused z =
+        let l = ends .part z in
+        rw (ends .cause z) (going-stop c right j (r .made) (r .state) (ends .reached) _ refl (omega arith) (λ q. z (ends .cause z ∙ q)))
+
+    pub ends-over : r .refusal ≡ 0 → (length j % 3 ≡ 0 → ⊥) → Replays c j (record { refusal = 3; place = r .made + 1; state = r .state })
+    ends-over z h = going-over c right j (r .made) (r .state) (ends .reached) h (ends .whole z)
+
+    pub ends-all : r .refusal ≡ 0 → length j % 3 ≡ 0 → Replays c j (record { refusal = 0; place = 0; state = r .state })
+    ends-all z h = going-end c right j (r .made) (r .state) (ends .reached) h (ends .whole z)

@@ -4,7 +4,7 @@ ghost use Rattle.reference.specs.Start.{config-cause};
 ghost use Rattle.session.specs.Contract.{table};
 ghost use Rattle.exports.specs.Model.{Replays};
 use state::State;
-use step::moves::moved;
+use step::moves::run;
 
 // A move without its operand.
 const BAD_OPERAND: u8 = 3;
@@ -20,34 +20,28 @@ pub(crate) fn replay(p: u8, t: u8, m: u8, b: u8, moves: &[u8]) -> Replayed
     requires { ⌜ config-cause (table p t m b) ≡ 0 ⌝ }
     ensures { λ r. ⌜ Replays (table p t m b) (now (moves .entry)) r ⌝ }
 {
-    let mut s = State::start(p, t, m, b);
-    let n = moves.len() / 3;
-    let mut i: usize = 0;
-    while i < n {
-        let at = 3 * i;
-        let made = moved(s, moves[at], moves[at + 1], moves[at + 2]);
-        let refusal = made.refusal;
-        if refusal != 0 {
-            return Replayed {
-                refusal,
-                place: (i as u32) + 1,
-                state: s,
-            };
-        }
-        let next = made.state;
-        s = next;
-        i += 1;
+    let s = State::start(p, t, m, b);
+    let done = run(s, moves);
+    let state = done.state;
+    let refusal = done.refusal;
+    let next = (done.made as u32) + 1;
+    if refusal != 0 {
+        return Replayed {
+            refusal,
+            place: next,
+            state,
+        };
     }
     if moves.len() % 3 != 0 {
         return Replayed {
             refusal: BAD_OPERAND,
-            place: (i as u32) + 1,
-            state: s,
+            place: next,
+            state,
         };
     }
     Replayed {
         refusal: 0,
         place: 0,
-        state: s,
+        state,
     }
 }

@@ -1,21 +1,22 @@
 -- Replaying a journal's moves: one more move, and the first that is refused.
 -- Assumes nothing.
-use Prim.Native.Nat.{ℕ, zero, suc, _+_, _*_, _≤_, _<_}
+use Prim.Native.Nat.{ℕ, zero, suc, _+_, _*_, _≤_, _<_, _/_}
 use mathlib.Core.Bool.{Bool, true, false, _&&_, true≢false}
 use mathlib.Core.List.{List, [], _∷_, _++_}
-use mathlib.Core.Path.{_≡_, refl, sym, ap, _∙_}
+use mathlib.Core.Path.{_≡_, refl, sym, ap, _∙_, subst}
 use native.Mathlib.Omega.{arith}
 use native.Mathlib.Numerals.{add-one}
 use lib.Dec.{eqb}
-use lib.ListN.{length, getD, drop}
+use lib.ListN.{length, getD, drop, take, length-take}
 use lib.Seq.{getD-drop}
-use borrow.Author.Tests.{ne-eqb, eq-eqb}
+use borrow.Author.Tests.{ne-eqb, eq-eqb, eqb-true, eqb-false}
 use Rattle.state.specs.declared.State.{State as Record}
 use Rattle.state.specs.Association.{encode}
 use Rattle.state.specs.Model.{start-record}
 use Rattle.state.proofs.Started.{start-shown}
 use Rattle.step.specs.declared.Moved.{Moved}
-use Rattle.step.specs.Model.{moved-of}
+use Rattle.step.specs.Model.{moved-of, run-of}
+use Rattle.step.proofs.InPlace.{Ends, run-ends}
 use Rattle.reference.specs.Start.{Config, config-cause, start}
 use Rattle.reference.proofs.Session.{run-snoc, accepted-snoc}
 use Rattle.session.specs.Replay.{Replays}
@@ -121,3 +122,38 @@ module _ (c : Config) (right : config-cause c ≡ 0) (j : List ℕ) where
 
   pub going-end : (n : ℕ) (s : Record) → Going c j n s → Replays c (moves n j) (record { all = true; state = s })
   going-end n s g = record { all = sym (g .all); state = λ x. g .state }
+
+-- the moves of a journal lie in its front
+pub moves-front : (n : ℕ) (j : List ℕ) → 3 * n ≤ length j → moves n (take (3 * n) j) ≡ moves n j
+unfolding moves
+moves-front zero j h = refl
+moves-front (suc n) [] h = absurd (omega arith)
+moves-front (suc n) (x ∷ []) h = absurd (omega arith)
+moves-front (suc n) (x ∷ y ∷ []) h = absurd (omega arith)
+moves-front (suc n) (x ∷ y ∷ z ∷ j) h =
+    let e : 3 * suc n ≡ suc (suc (suc (3 * n))) = omega arith in
+    rw (e, moves-front n j (omega arith))
+
+-- ---- the code's replay, as a whole
+
+module _ (c : Config) (right : config-cause c ≡ 0) (n : ℕ) (j : List ℕ) (h : 3 * n ≤ length j) where
+  abbrev front : List ℕ
+  front = take (3 * n) j
+
+  front-moves : length front / 3 ≡ n
+  front-moves = omega (arith, length-take (3 * n) j)
+
+  module _ (s : Record) (e : s ≡ start-record (c .P) (c .T) (c .M) (c .B)) where
+    ends : Ends front (Going c front) n (λ i r g l z. going-more c right front i r g _ refl z) (run-of s front)
+    ends = rw front-moves (run-ends front (Going c front) n (λ i r g l z. going-more c right front i r g _ refl z) n 0 s (going-start c right front s e) (omega arith))
+
+    pub replayed : Replays c (moves n j) (record { all = eqb (run-of s front .refusal) 0; state = run-of s front .state })
+    replayed = rw (← moves-front n j h) (by (eqb (run-of s front .refusal) 0) refl)
+      where
+        by : (b : Bool) → eqb (run-of s front .refusal) 0 ≡ b → Replays c (moves n front) (record { all = b; state = run-of s front .state })
+        by true t =
+            let z = eqb-true (run-of s front .refusal) 0 t in
+            going-end c right front n (run-of s front .state) (subst (λ (i : ℕ). Going c front i (run-of s front .state)) (ends .whole z) (ends .reached))
+        by false t =
+            let z = eqb-false (run-of s front .refusal) 0 t in
+            going-stop c right front (run-of s front .made) (run-of s front .state) (ends .reached) _ refl n (ends .part z) (λ q. z (ends .cause z ∙ q))

@@ -7,7 +7,7 @@ ghost use Rattle.reference.specs.Session.{moves};
 ghost use Rattle.session.specs.Contract.{table};
 ghost use Rattle.session.specs.Replay.{Replays};
 use state::State;
-use step::moves::moved;
+use step::moves::run;
 
 // Whether each move was accepted, and the state after them.
 pub(crate) struct Replayed {
@@ -19,23 +19,12 @@ pub(crate) fn replay(p: u8, t: u8, m: u8, b: u8, journal: &[u8], n: u16) -> Repl
     requires { ⌜ (config-cause (table p t m b) ≡ 0) × (3 * n ≤ length (now journal)) ⌝ }
     ensures { λ r. ⌜ Replays (table p t m b) (moves n (now (journal .entry))) r ⌝ }
 {
-    let mut s = State::start(p, t, m, b);
-    let mut i: u16 = 0;
-    while i < n {
-        let at = 3 * (i as usize);
-        let made = moved(s, journal[at], journal[at + 1], journal[at + 2]);
-        if made.refusal != 0 {
-            return Replayed {
-                all: false,
-                state: s,
-            };
-        }
-        let next = made.state;
-        s = next;
-        i += 1;
-    }
+    let s = State::start(p, t, m, b);
+    let end = 3 * (n as usize);
+    let done = run(s, &journal[..end]);
+    let state = done.state;
     Replayed {
-        all: true,
-        state: s,
+        all: done.refusal == 0,
+        state,
     }
 }

@@ -5,3 +5,4 @@ pub mod Fill
 pub mod Sized
 pub mod Table
 pub mod Started
+pub mod Bytes

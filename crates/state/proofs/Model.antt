@@ -7,7 +7,7 @@ use lib.ListN.{getD, set}
 use borrow.Author.Tests.{eq-eqb, ne-eqb}
 use Rattle.state.specs.declared.Thread.{Thread}
 use Rattle.state.specs.declared.Chains.{Chains}
-use Rattle.state.specs.declared.chain.Taken.the-variants as answer
+use Rattle.state.specs.declared.queues.Taken.the-variants as answer
 use Rattle.state.specs.Record.{thread-in}
 use Rattle.state.specs.Model.{next-of, status-in, queued-in, linked-to, last-from, taken, joined}
 

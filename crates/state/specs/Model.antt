@@ -1,7 +1,7 @@
 -- What the code's reads and writes of a record compute: a model that only inner contracts cite; nobody needs to believe it.
 -- Assumes nothing.
-use Prim.Native.Nat.{ℕ, zero, suc, _+_}
-use mathlib.Core.List.{List}
+use Prim.Native.Nat.{ℕ, zero, suc, _+_, _*_}
+use mathlib.Core.List.{List, [], _∷_}
 use lib.Dec.{eqb, leb, ltb}
 use lib.ListN.{getD, set, replicate}
 use Rattle.state.specs.declared.Thread.{Thread}
@@ -9,9 +9,9 @@ use Rattle.state.specs.declared.Processor.{Processor}
 use Rattle.state.specs.declared.Mutex.{Mutex}
 use Rattle.state.specs.declared.Chains.{Chains}
 use Rattle.state.specs.declared.State.{State}
-use Rattle.state.specs.declared.chain.Taken.{Taken}
-use Rattle.state.specs.declared.chain.Taken.the-variants as answer
-use Rattle.state.specs.declared.chain.Taken.the-variants.{Nothing}
+use Rattle.state.specs.declared.queues.Taken.{Taken}
+use Rattle.state.specs.declared.queues.Taken.the-variants as answer
+use Rattle.state.specs.declared.queues.Taken.the-variants.{Nothing}
 use Rattle.state.specs.Record.{zero-thread, zero-mutex, zero-token, thread-in}
 use Rattle.reference.specs.Lists.{choose, in-range, tabulate}
 
@@ -109,6 +109,37 @@ joined c q k =
 -- thread k becomes t, in no queue
 unfoldable pub placed : Chains → ℕ → Thread → Chains
 placed c k t = record { firsts = c .firsts; threads = set (c .threads) k t }
+
+-- ---- the queues in place
+
+-- the threads as bytes: status, holder and next of thread k at 3k, 3k + 1 and 3k + 2
+unfoldable pub bytes-of : List Thread → List ℕ
+bytes-of [] = []
+bytes-of (t ∷ ts) = t .status ∷ t .holder ∷ t .next ∷ bytes-of ts
+
+abbrev pub thread-from : List ℕ → ℕ → Thread
+thread-from b k = record { status = getD b (3 * k) 0; holder = getD b (3 * k + 1) 0; next = getD b (3 * k + 2) 0 }
+
+abbrev pub with-thread : List ℕ → ℕ → Thread → List ℕ
+with-thread b k t = set (set (set b (3 * k) (t .status)) (3 * k + 1) (t .holder)) (3 * k + 2) (t .next)
+
+-- what taking from a queue finds, by its first and that one's next
+abbrev pub found : ℕ → ℕ → Taken
+found first next = choose (eqb first 0) Nothing (answer.Thread first next)
+
+-- the thread at the end of the chain from k, within `fuel` links
+unfoldable pub last-in : List ℕ → ℕ → ℕ → ℕ
+last-in b zero k = k
+last-in b (suc fuel) k = choose (eqb (getD b (3 * k + 2) 0) 0) k (last-in b fuel (getD b (3 * k + 2) 0))
+
+-- thread k joins queue q's end
+abbrev pub joined-firsts : List ℕ → ℕ → ℕ → List ℕ
+joined-firsts f q k = choose (eqb (getD f q 0) 0) (set f q k) f
+
+abbrev pub joined-threads : List ℕ → List ℕ → ℕ → ℕ → List ℕ
+joined-threads f b q k =
+    choose (eqb (getD f q 0) 0) (with-thread b k (queued-in q))
+    (set (with-thread b k (queued-in q)) (3 * last-in b 32 (getD f q 0) + 2) k)
 
 -- ---- the start state
 

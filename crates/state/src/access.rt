@@ -1,21 +1,18 @@
 // Reads and writes of the record's arrays at any index: past the end a read gives zero and a write does nothing.
 ghost use mathlib.Core.Path.{_≡_};
 ghost use lib.ListN.{set};
-ghost use Rattle.state.specs.Record.{processor-in, mutex-in, processor-of, mutex-of};
-ghost use Rattle.state.specs.Model.{with-processor, with-mutex, with-chains, with-applied};
+ghost use Rattle.state.specs.Record.{zero-processor, zero-mutex, processor-in, mutex-in, processor-of, mutex-of};
+ghost use Rattle.state.specs.Model.{with-processor, with-mutex, with-chains};
 use crate::Chains;
 use crate::Mutex;
 use crate::Processor;
 use crate::State;
 use crate::Token;
 
-pub fn processor_at(processors: [Processor; 9], p: u8) -> Processor
-    ensures { λ r. ⌜ r ≡ processor-in processors p ⌝ }
-{
-    let i = p as usize;
-    if i < 9 {
-        processors[i]
-    } else {
+impl Processor {
+    pub fn zero() -> Processor
+        ensures { λ r. ⌜ r ≡ zero-processor ⌝ }
+    {
         Processor {
             position: 0,
             current: 0,
@@ -28,6 +25,32 @@ pub fn processor_at(processors: [Processor; 9], p: u8) -> Processor
             sequence: 0,
             answer: 0,
         }
+    }
+}
+
+impl Mutex {
+    pub fn zero() -> Mutex
+        ensures { λ r. ⌜ r ≡ zero-mutex ⌝ }
+    {
+        Mutex {
+            count: 0,
+            owner: 0,
+            token: Token {
+                processor: 0,
+                sequence: 0,
+            },
+        }
+    }
+}
+
+pub fn processor_at(processors: [Processor; 9], p: u8) -> Processor
+    ensures { λ r. ⌜ r ≡ processor-in processors p ⌝ }
+{
+    let i = p as usize;
+    if i < 9 {
+        processors[i]
+    } else {
+        Processor::zero()
     }
 }
 
@@ -46,18 +69,7 @@ pub fn mutex_at(mutexes: [Mutex; 9], m: u8) -> Mutex
     ensures { λ r. ⌜ r ≡ mutex-in mutexes m ⌝ }
 {
     let i = m as usize;
-    if i < 9 {
-        mutexes[i]
-    } else {
-        Mutex {
-            count: 0,
-            owner: 0,
-            token: Token {
-                processor: 0,
-                sequence: 0,
-            },
-        }
-    }
+    if i < 9 { mutexes[i] } else { Mutex::zero() }
 }
 
 pub fn with_mutex(mutexes: [Mutex; 9], m: u8, x: Mutex) -> [Mutex; 9]
@@ -108,13 +120,6 @@ impl State {
         ensures { λ s. ⌜ s ≡ with-chains chains self ⌝ }
     {
         self.chains = chains;
-        self
-    }
-
-    pub fn with_applied(mut self, n: u16) -> State
-        ensures { λ s. ⌜ s ≡ with-applied n self ⌝ }
-    {
-        self.applied = n;
         self
     }
 }

@@ -1,9 +1,7 @@
-// The queues as chains: taking the first thread out, and joining at the end. Queue 0 is the ready queue, queue m that of mutex m.
+// The chains' arrays at any index: past the end a read gives zero and a write does nothing. Queue 0 is the ready queue, queue m that of mutex m.
 ghost use mathlib.Core.Path.{_≡_};
 ghost use lib.ListN.{getD, set};
 ghost use Rattle.state.specs.Record.{thread-in};
-ghost use Rattle.state.specs.Model.{queued-in, last-from, taken, removed, joined, placed};
-use crate::Chains;
 use crate::Thread;
 
 pub fn thread_at(threads: [Thread; 33], k: u8) -> Thread
@@ -48,100 +46,4 @@ pub fn with_first(firsts: [u8; 9], q: u8, k: u8) -> [u8; 9]
         next[i] = k;
     }
     next
-}
-
-// The thread at the end of the chain from first: no chain has more than 32 links.
-pub fn last_from(threads: [Thread; 33], first: u8) -> u8
-    ensures { λ r. ⌜ r ≡ last-from threads 32 first ⌝ }
-{
-    let mut at = first;
-    let mut left: u8 = 32;
-    while 0 < left {
-        let t = thread_at(threads, at);
-        if t.next == 0 {
-            return at;
-        }
-        at = t.next;
-        left -= 1;
-    }
-    at
-}
-
-// A thread of queue q that ends its chain.
-fn queued_in(q: u8) -> Thread
-    ensures { λ r. ⌜ r ≡ queued-in q ⌝ }
-{
-    let status = if q == 0 { 1 } else { 2 };
-    Thread {
-        status,
-        holder: q,
-        next: 0,
-    }
-}
-
-// What taking from a queue finds: a thread with the remaining chain's first, or nothing.
-pub enum Taken {
-    Thread(u8, u8),
-    Nothing,
-}
-
-pub fn take(chains: Chains, q: u8) -> Taken
-    ensures { λ r. ⌜ r ≡ taken chains q ⌝ }
-{
-    let firsts = chains.firsts;
-    let threads = chains.threads;
-    let first = first_at(firsts, q);
-    if first == 0 {
-        return Taken::Nothing;
-    }
-    let t = thread_at(threads, first);
-    Taken::Thread(first, t.next)
-}
-
-// Thread k leaves the front of queue q, whose chain then begins at rest, and is t.
-pub fn remove(chains: Chains, q: u8, k: u8, rest: u8, t: Thread) -> Chains
-    ensures { λ r. ⌜ r ≡ removed chains q k rest t ⌝ }
-{
-    let firsts = chains.firsts;
-    let threads = chains.threads;
-    Chains {
-        firsts: with_first(firsts, q, rest),
-        threads: with_thread(threads, k, t),
-    }
-}
-
-// Thread k joins queue q's end.
-pub fn join(chains: Chains, q: u8, k: u8) -> Chains
-    ensures { λ r. ⌜ r ≡ joined chains q k ⌝ }
-{
-    let firsts = chains.firsts;
-    let threads = chains.threads;
-    let front = first_at(firsts, q);
-    let entry = queued_in(q);
-    let waiting = with_thread(threads, k, entry);
-    if front == 0 {
-        return Chains {
-            firsts: with_first(firsts, q, k),
-            threads: waiting,
-        };
-    }
-    let end = last_from(threads, front);
-    let mut last = thread_at(waiting, end);
-    last.next = k;
-    Chains {
-        firsts,
-        threads: with_thread(waiting, end, last),
-    }
-}
-
-// Thread k becomes t, in no queue.
-pub fn place(chains: Chains, k: u8, t: Thread) -> Chains
-    ensures { λ r. ⌜ r ≡ placed chains k t ⌝ }
-{
-    let firsts = chains.firsts;
-    let threads = chains.threads;
-    Chains {
-        firsts,
-        threads: with_thread(threads, k, t),
-    }
 }

@@ -1,6 +1,7 @@
 // The machine's record as structs by value, with its queues as chains of threads.
 pub mod access;
 pub mod chain;
+pub mod queues;
 pub mod start;
 
 pub struct Position {}

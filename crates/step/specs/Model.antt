@@ -1,24 +1,27 @@
 -- Nobody needs to believe this: what the code computes, on its own records. Pure theorems relate it to the reference machine.
 -- Assumes nothing.
-use Prim.Native.Nat.{ℕ, _+_, _-_}
+use Prim.Native.Nat.{ℕ, zero, suc, _+_, _-_, _*_, _/_}
 use mathlib.Core.Bool.{Bool, true, false, _&&_, _||_, not}
 use mathlib.Core.List.{List, [], _∷_}
 use lib.Dec.{eqb, leb, ltb}
-use lib.ListN.{getD}
+use lib.ListN.{length, getD, set}
 use Rattle.state.specs.declared.Token.{Token}
 use Rattle.state.specs.declared.Processor.{Processor}
 use Rattle.state.specs.declared.Mutex.{Mutex}
+use Rattle.state.specs.declared.Thread as thread
 use Rattle.state.specs.declared.Chains.{Chains}
 use Rattle.state.specs.declared.State.{State}
-use Rattle.state.specs.declared.chain.Taken.{Taken}
-use Rattle.state.specs.declared.chain.Taken.the-variants.{Thread, Nothing}
+use Rattle.state.specs.declared.queues.Taken.{Taken}
+use Rattle.state.specs.declared.queues.Taken.the-variants.{Thread, Nothing}
 use Rattle.state.specs.Record.{zero-token, processor-of, mutex-of, thread-of}
-use Rattle.state.specs.Model.{taken, removed, joined, placed, with-processor, with-mutex, with-chains, with-applied}
+use Rattle.state.specs.Model.{found, with-thread, joined-firsts, joined-threads, taken, removed, joined, placed, with-processor, with-mutex, with-chains, with-applied}
 use Rattle.reference.specs.Refusal.{refuse}
 use Rattle.reference.specs.Lists.{choose, in-range}
 use Rattle.step.specs.declared.View.{View}
 use Rattle.step.specs.declared.Effect.{Effect}
 use Rattle.step.specs.declared.Moved.{Moved}
+use Rattle.step.specs.declared.Sizes.{Sizes}
+use Rattle.step.specs.declared.Run.{Run}
 use Rattle.step.specs.declared.Transfer.{Transfer}
 use Rattle.step.specs.declared.Transfer.the-variants.{Stay, Take, Join, Mark}
 
@@ -291,3 +294,71 @@ refusal-of s p a o = choose (eqb (cause-of s p a o) 0) (choose (step-breaks-of s
 
 unfoldable pub moved-of : State → ℕ → ℕ → ℕ → Moved
 moved-of s p a o = record { refusal = refusal-of s p a o; state = choose (eqb (refusal-of s p a o) 0) (stepped-of s p a o) s }
+
+-- ---- moves one after another, in place
+
+-- why a move is refused, by what it sees and by the status of the thread that its operand names
+abbrev pub operand-fits : Sizes → ℕ → ℕ → Bool
+operand-fits z a o = choose (eqb a 0) (eqb o 0) (choose (in-range 1 3 a) (in-range 1 (z .m) o) (choose (eqb a 6) (in-range 1 (z .t) o) (eqb o 0)))
+
+unfoldable pub go-refusal : ℕ → View → ℕ
+go-refusal t v = refuse (eqb (v .proc .position) 0) 5 (refuse (breaks-at t v) 15 0)
+
+unfoldable pub call-refusal : View → ℕ → ℕ → ℕ
+call-refusal v status a =
+    refuse (not (eqb (v .proc .position) 0)) 4
+    (refuse (eqb a 3 && not (eqb (v .mutex .owner) (v .proc .current))) 6 (refuse (eqb a 6 && not (eqb status 0)) 7 0))
+
+unfoldable pub refusal-seen : Sizes → View → ℕ → ℕ → ℕ → ℕ
+refusal-seen z v status a o =
+    refuse (not (in-range 1 (z .p) (v .number))) 2
+    (refuse (not (leb a 6 && operand-fits z a o)) 3
+    (refuse (leb 4000 (z .applied)) 8 (choose (eqb a 0) (go-refusal (z .t) v) (call-refusal v status a))))
+
+abbrev pub seen-of : List ℕ → List ℕ → ℕ → Processor → ℕ → Mutex → View
+seen-of f b p r m x =
+    record {
+      number = p;
+      proc = r;
+      mutex = x;
+      queue = found (getD f m 0) (getD b (3 * getD f m 0 + 2) 0);
+      ready = found (getD f 0 0) (getD b (3 * getD f 0 0 + 2) 0);
+    }
+
+abbrev pub carried-firsts : List ℕ → Transfer → List ℕ
+carried-firsts f Stay = f
+carried-firsts f (Take q k rest) = set f q rest
+carried-firsts f (Join q k) = joined-firsts f q k
+carried-firsts f (Mark k status holder) = f
+
+abbrev pub carried-threads : List ℕ → List ℕ → ℕ → Transfer → List ℕ
+carried-threads f b p Stay = b
+carried-threads f b p (Take q k rest) = with-thread b k (record { status = 4; holder = p; next = 0 })
+carried-threads f b p (Join q k) = joined-threads f b q k
+carried-threads f b p (Mark k status holder) = with-thread b k (record { status = status; holder = holder; next = 0 })
+
+-- a record with all that a move changes
+abbrev pub gathered-of : State → List ℕ → List thread.Thread → List Processor → List Mutex → ℕ → State
+gathered-of s firsts threads processors mutexes n =
+    record {
+      p = s .p;
+      t = s .t;
+      m = s .m;
+      applied = n;
+      chains = record { firsts = firsts; threads = threads };
+      processors = processors;
+      mutexes = mutexes;
+    }
+
+abbrev pub ran : ℕ → ℕ → State → Run
+ran refusal made s = record { refusal = refusal; made = made; state = s }
+
+-- the moves of a list of bytes from move i on, at most n of them: until one is refused
+unfoldable pub run-from : List ℕ → ℕ → ℕ → State → Run
+run-from j zero i s = ran 0 i s
+run-from j (suc n) i s =
+    let r = moved-of s (getD j (3 * i) 0) (getD j (3 * i + 1) 0) (getD j (3 * i + 2) 0) in
+    choose (eqb (r .refusal) 0) (run-from j n (i + 1) (r .state)) (ran (r .refusal) i s)
+
+abbrev pub run-of : State → List ℕ → Run
+run-of s j = run-from j (length j / 3) 0 s

@@ -1,18 +1,11 @@
-// Why a move is refused: the first of 2, 3, 8, 4 or 5, 6, 7 that is there, else 0.
+// Why a move is refused, by what it sees: the first of 2, 3, 8, 4 or 5, 6, 7, 15 that is there, else 0.
 ghost use mathlib.Core.Path.{_≡_};
-ghost use Rattle.reference.specs.Refusal.{refuse};
 ghost use Rattle.reference.specs.Lists.{in-range};
-ghost use Rattle.step.specs.Model.{operand-right, refusal-here, cause-of};
+ghost use Rattle.step.specs.Model.{operand-fits, go-refusal, call-refusal, refusal-seen};
+use crate::Sizes;
+use crate::View;
+use crate::breaks::breaks;
 use state::Position;
-use state::State;
-use state::chain::thread_at;
-
-// The number n where its cause is there; else what comes after it decides.
-pub(crate) fn refuse(there: bool, n: u8, later: u8) -> u8
-    ensures { λ r. ⌜ r ≡ refuse there n later ⌝ }
-{
-    if there { n } else { later }
-}
 
 pub(crate) fn in_range(lo: u8, hi: u8, n: u8) -> bool
     ensures { λ r. ⌜ r ≡ in-range lo hi n ⌝ }
@@ -21,40 +14,74 @@ pub(crate) fn in_range(lo: u8, hi: u8, n: u8) -> bool
 }
 
 // The operand of a call on a mutex is a mutex, that of create a thread, that of the others 0.
-pub(crate) fn operand_fits(s: State, action: u8, operand: u8) -> bool
-    ensures { λ r. ⌜ r ≡ operand-right s action operand ⌝ }
+pub(crate) fn operand_fits(z: Sizes, action: u8, operand: u8) -> bool
+    ensures { λ r. ⌜ r ≡ operand-fits z action operand ⌝ }
 {
+    if action == 0 {
+        return operand == 0;
+    }
     if in_range(1, 3, action) {
-        return in_range(1, s.m, operand);
+        return in_range(1, z.m, operand);
     }
     if action == 6 {
-        return in_range(1, s.t, operand);
+        return in_range(1, z.t, operand);
     }
     operand == 0
 }
 
-// The causes that an action can meet where the processor, the action and its operand are in order and there is room.
-pub(crate) fn refused_here(s: State, p: u8, action: u8, operand: u8) -> u8
-    ensures { λ r. ⌜ r ≡ refusal-here s p action operand ⌝ }
+pub(crate) fn sizes(p: u8, t: u8, m: u8, applied: u16) -> Sizes
+    ensures { λ r. ⌜ r ≡ record { p = p; t = t; m = m; applied = applied } ⌝ }
 {
-    let r = s.processor(p);
-    let x = s.mutex(operand);
-    let chains = s.chains;
-    let threads = chains.threads;
-    let t = thread_at(threads, operand);
-    let created = refuse((action == 6) & (t.status != 0), 7, 0);
-    let owned = refuse((action == 3) & (x.owner != r.current), 6, created);
-    let away = refuse((action == 0) & (r.position == Position::APP), 5, owned);
-    refuse((action != 0) & (r.position != Position::APP), 4, away)
+    Sizes { p, t, m, applied }
 }
 
-pub fn cause(s: State, p: u8, action: u8, operand: u8) -> u8
-    ensures { λ r. ⌜ r ≡ cause-of s p action operand ⌝ }
+// A go: at App there is no line, and no line may break a rule.
+pub(crate) fn go_refusal(t: u8, v: View) -> u8
+    ensures { λ r. ⌜ r ≡ go-refusal t v ⌝ }
 {
-    let here = refused_here(s, p, action, operand);
-    let room = refuse(4000 <= s.applied, 8, here);
-    let fits = operand_fits(s, action, operand);
-    let known = refuse(!((action <= 6) & fits), 3, room);
-    let there = in_range(1, s.p, p);
-    refuse(!there, 2, known)
+    let r = v.proc;
+    if r.position == Position::APP {
+        return 5;
+    }
+    let there = breaks(t, v);
+    if there { 15 } else { 0 }
+}
+
+// A call: only at App; unlock only by the owner; create only of a new thread, whose status is 0.
+pub(crate) fn call_refusal(v: View, status: u8, action: u8) -> u8
+    ensures { λ r. ⌜ r ≡ call-refusal v status action ⌝ }
+{
+    let r = v.proc;
+    let x = v.mutex;
+    if r.position != Position::APP {
+        return 4;
+    }
+    if (action == 3) & (x.owner != r.current) {
+        return 6;
+    }
+    if (action == 6) & (status != 0) {
+        return 7;
+    }
+    0
+}
+
+// Status is that of the thread which the operand names.
+pub(crate) fn cause(z: Sizes, v: View, status: u8, action: u8, operand: u8) -> u8
+    ensures { λ r. ⌜ r ≡ refusal-seen z v status action operand ⌝ }
+{
+    let there = in_range(1, z.p, v.number);
+    if !there {
+        return 2;
+    }
+    let fits = operand_fits(z, action, operand);
+    if !((action <= 6) & fits) {
+        return 3;
+    }
+    if 4000 <= z.applied {
+        return 8;
+    }
+    if action == 0 {
+        return go_refusal(z.t, v);
+    }
+    call_refusal(v, status, action)
 }

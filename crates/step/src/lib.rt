@@ -13,7 +13,7 @@ pub mod unlock;
 use state::Mutex;
 use state::Processor;
 use state::State;
-use state::chain::Taken;
+use state::queues::Taken;
 
 // What a processor sees: its number, its registers, its mutex, and what taking from that mutex's queue and from the ready queue finds.
 pub struct View {
@@ -49,6 +49,21 @@ impl Status {
     pub const TRANSIT: u8 = 4;
 
     pub const TERMINATED: u8 = 5;
+}
+
+// What a move's refusal needs of a record: its processors, threads, mutexes, and the moves applied.
+pub struct Sizes {
+    pub p: u8,
+    pub t: u8,
+    pub m: u8,
+    pub applied: u16,
+}
+
+// Where a list of moves leads: why its first refused move is refused, or 0, how many moves were made, and the state after them.
+pub struct Run {
+    pub refusal: u8,
+    pub made: usize,
+    pub state: State,
 }
 
 // A move's answer: 0, or why it is refused, and the state after it.

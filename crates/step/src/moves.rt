@@ -1,22 +1,37 @@
-// A whole move: what a processor sees, what the move makes of it, and how that is put back.
+// Moves: what a processor sees, what a move makes of it, and how that is put back in place.
 ghost use mathlib.Core.Path.{_≡_};
-ghost use Rattle.step.specs.Model.{target-of, view-of, carried, step-breaks-of, stepped-of, refusal-of, moved-of};
+ghost use Prim.Native.Nat.{_+_, _*_};
+ghost use lib.ListN.{getD};
+ghost use Rattle.reference.specs.Lists.{tabulate};
+ghost use Rattle.state.specs.Model.{thread-from};
+ghost use Rattle.step.specs.Model.{target-of, seen-of, carried-firsts, carried-threads, gathered-of, ran, run-of, moved-of};
 use crate::Moved;
+use crate::Run;
+use crate::Sizes;
 use crate::Status;
 use crate::Transfer;
 use crate::View;
-use crate::breaks::breaks;
 use crate::cause::cause;
 use crate::cause::in_range;
+use crate::cause::sizes;
 use crate::line::act;
+use crate::registers::by_fields;
+use crate::registers::mutex_by_fields;
 use crate::registers::up_wide;
 use state::Chains;
+use state::Mutex;
+use state::Processor;
 use state::State;
 use state::Thread;
-use state::chain::join;
-use state::chain::place;
-use state::chain::remove;
-use state::chain::take;
+use state::queues::bytes_of;
+use state::queues::found;
+use state::queues::get;
+use state::queues::join;
+use state::queues::next_in;
+use state::queues::put;
+use state::queues::put_thread;
+use state::queues::status_in;
+use state::queues::threads_of;
 
 // The mutex that a move works on: that of a call on one, else the processor's.
 pub(crate) fn target(action: u8, mutex: u8, operand: u8) -> u8
@@ -29,44 +44,47 @@ pub(crate) fn target(action: u8, mutex: u8, operand: u8) -> u8
     }
 }
 
-// What processor p sees of the state, and of mutex m.
-pub(crate) fn look(s: State, p: u8, m: u8) -> View
-    ensures { λ r. ⌜ r ≡ view-of s p m ⌝ }
+// What processor p, which is r, sees of mutex m, which is x, and of the queues.
+pub(crate) fn look(firsts: &[u8], threads: &[u8], p: u8, r: Processor, m: u8, x: Mutex) -> View
+    ensures { λ v. ⌜ v ≡ seen-of (now (firsts .entry)) (now (threads .entry)) p r m x ⌝ }
 {
-    let proc = s.processor(p);
-    let mutex = s.mutex(m);
-    let chains = s.chains;
-    let queue = take(chains, m);
-    let ready = take(chains, 0);
+    let waiting = get(firsts, m as usize);
+    let after = next_in(threads, waiting);
+    let first = get(firsts, 0);
+    let next = next_in(threads, first);
+    let queue = found(waiting, after);
+    let ready = found(first, next);
     View {
         number: p,
-        proc,
-        mutex,
+        proc: r,
+        mutex: x,
         queue,
         ready,
     }
 }
 
 // A transfer by processor p, carried out.
-pub(crate) fn carry(chains: Chains, p: u8, transfer: Transfer) -> Chains
-    ensures { λ r. ⌜ r ≡ carried chains p transfer ⌝ }
+pub(crate) fn carry(firsts: &mut [u8], threads: &mut [u8], p: u8, transfer: Transfer)
+    ensures firsts { λ r. ⌜ now (firsts .exit) ≡ carried-firsts (now (firsts .entry)) transfer ⌝ }
+    ensures threads { λ r. ⌜ now (threads .exit) ≡ carried-threads (now (firsts .entry)) (now (threads .entry)) p transfer ⌝ }
 {
     match transfer {
-        Transfer::Stay => chains,
-        Transfer::Take(q, k, rest) => remove(
-            chains,
-            q,
-            k,
-            rest,
-            Thread {
-                status: Status::TRANSIT,
-                holder: p,
-                next: 0,
-            },
-        ),
-        Transfer::Join(q, k) => join(chains, q, k),
-        Transfer::Mark(k, status, holder) => place(
-            chains,
+        Transfer::Stay => {}
+        Transfer::Take(q, k, rest) => {
+            put(firsts, q as usize, rest);
+            put_thread(
+                threads,
+                k,
+                Thread {
+                    status: Status::TRANSIT,
+                    holder: p,
+                    next: 0,
+                },
+            );
+        }
+        Transfer::Join(q, k) => join(firsts, threads, q, k),
+        Transfer::Mark(k, status, holder) => put_thread(
+            threads,
             k,
             Thread {
                 status,
@@ -77,56 +95,90 @@ pub(crate) fn carry(chains: Chains, p: u8, transfer: Transfer) -> Chains
     }
 }
 
-// Whether the step would break a rule. No call does.
-pub fn step_breaks(s: State, p: u8, action: u8) -> bool
-    ensures { λ r. ⌜ r ≡ step-breaks-of s p action ⌝ }
+// The record with all that moves change but the count of those applied.
+fn gathered(
+    mut s: State,
+    firsts: [u8; 9],
+    bytes: &[u8],
+    processors: [Processor; 9],
+    mutexes: [Mutex; 9],
+) -> State
+    ensures { λ r. ⌜ r ≡ gathered-of s firsts (tabulate (thread-from (now (bytes .entry))) 0 33) processors mutexes (s .applied) ⌝ }
 {
-    let r = s.processor(p);
-    let there = breaks(s.t, look(s, p, r.mutex));
-    (action == 0) & there
+    let threads = threads_of(bytes);
+    let chains = Chains { firsts, threads };
+    s.chains = chains;
+    s.processors = processors;
+    s.mutexes = mutexes;
+    s
 }
 
-// The state after a move that has no cause.
-pub fn stepped(s: State, p: u8, action: u8, operand: u8) -> State
-    ensures { λ r. ⌜ r ≡ stepped-of s p action operand ⌝ }
+fn stopped(refusal: u8, made: usize, state: State) -> Run
+    ensures { λ r. ⌜ r ≡ ran refusal made state ⌝ }
 {
-    let r = s.processor(p);
-    let m = target(action, r.mutex, operand);
-    let e = act(action, operand, look(s, p, m));
-    let chains = s.chains;
-    let transfer = e.transfer;
-    let next = carry(chains, p, transfer);
-    let n = up_wide(s.applied);
-    let mutex = e.mutex;
-    let proc = e.proc;
-    s.with_chains(next)
-        .with_mutex(m, mutex)
-        .with_processor(p, proc)
-        .with_applied(n)
-}
-
-// The first cause, or 15 where the step would break a rule, or 0.
-pub fn refusal(s: State, p: u8, action: u8, operand: u8) -> u8
-    ensures { λ r. ⌜ r ≡ refusal-of s p action operand ⌝ }
-{
-    let first = cause(s, p, action, operand);
-    if first == 0 {
-        let there = step_breaks(s, p, action);
-        return if there { 15 } else { 0 };
+    Run {
+        refusal,
+        made,
+        state,
     }
-    first
 }
 
-// A move on a record that keeps the rules: refused, the state stays.
+// Makes moves, three bytes each, in order on one record that is changed in place, until one is refused. Bytes left over are no move.
+pub fn run(start: State, moves: &[u8]) -> Run
+    ensures { λ r. ⌜ r ≡ run-of start (now (moves .entry)) ⌝ }
+{
+    let mut s = start;
+    let chains = s.chains;
+    let threads = chains.threads;
+    let mut firsts = chains.firsts;
+    let mut bytes = bytes_of(threads);
+    let mut processors = s.processors;
+    let mut mutexes = s.mutexes;
+    let nobody = Processor::zero();
+    let n = moves.len() / 3;
+    let mut made: usize = 0;
+    while made < n {
+        let at = 3 * made;
+        let p = moves[at];
+        let action = moves[at + 1];
+        let operand = moves[at + 2];
+        let i = p as usize;
+        let r = if i < 9 { processors[i] } else { nobody };
+        let m = target(action, r.mutex, operand);
+        let j = m as usize;
+        let x = if j < 9 { mutexes[j] } else { Mutex::zero() };
+        let v = look(&firsts, &bytes, p, by_fields(r), m, mutex_by_fields(x));
+        let z = sizes(s.p, s.t, s.m, s.applied);
+        let refusal = cause(z, v, status_in(&bytes, operand), action, operand);
+        if refusal != 0 {
+            let state = gathered(s, firsts, &bytes, processors, mutexes);
+            return stopped(refusal, made, state);
+        }
+        let e = act(action, operand, v);
+        let transfer = e.transfer;
+        carry(&mut firsts, &mut bytes, p, transfer);
+        if j < 9 {
+            mutexes[j] = mutex_by_fields(e.mutex);
+        }
+        if i < 9 {
+            processors[i] = by_fields(e.proc);
+        }
+        s.applied = up_wide(s.applied);
+        made += 1;
+    }
+    let state = gathered(s, firsts, &bytes, processors, mutexes);
+    stopped(0, made, state)
+}
+
+// One move: refused, the state stays.
 pub fn moved(s: State, p: u8, action: u8, operand: u8) -> Moved
     ensures { λ r. ⌜ r ≡ moved-of s p action operand ⌝ }
 {
-    let refusal = refusal(s, p, action, operand);
-    if refusal == 0 {
-        return Moved {
-            refusal,
-            state: stepped(s, p, action, operand),
-        };
+    let bytes = [p, action, operand];
+    let done = run(s, &bytes);
+    let state = done.state;
+    Moved {
+        refusal: done.refusal,
+        state,
     }
-    Moved { refusal, state: s }
 }

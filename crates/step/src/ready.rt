@@ -10,7 +10,7 @@ use crate::registers::join_ready;
 use crate::registers::load;
 use crate::registers::stays;
 use state::Position;
-use state::chain::Taken;
+use state::queues::Taken;
 
 // CI2: the ready queue is empty: stay. Else its first goes to the transit register; CI3.
 pub(crate) fn ci2(v: View) -> Effect

@@ -39,51 +39,89 @@ pub(crate) fn same(a: Token, b: Token) -> bool
     (a.processor == b.processor) & (a.sequence == b.sequence)
 }
 
-pub(crate) fn cleared(mut x: Mutex) -> Mutex
+pub(crate) fn cleared(x: Mutex) -> Mutex
     ensures { λ r. ⌜ r ≡ tokened zero-token x ⌝ }
 {
-    let none = Token {
-        processor: 0,
-        sequence: 0,
-    };
-    x.token = none;
-    x
+    Mutex {
+        count: x.count,
+        owner: x.owner,
+        token: Token {
+            processor: 0,
+            sequence: 0,
+        },
+    }
 }
 
 // To stand at a line that has no mutex.
-pub(crate) fn away(mut r: Processor, position: u8) -> Processor
+pub(crate) fn away(r: Processor, position: u8) -> Processor
     ensures { λ x. ⌜ x ≡ away position r ⌝ }
 {
-    let none = Token {
-        processor: 0,
-        sequence: 0,
-    };
-    r.position = position;
-    r.mutex = 0;
-    r.observed = none;
-    r
+    Processor {
+        position,
+        current: r.current,
+        transit: r.transit,
+        mutex: 0,
+        observed: Token {
+            processor: 0,
+            sequence: 0,
+        },
+        sequence: r.sequence,
+        answer: r.answer,
+    }
 }
 
 // To stand at a line that has a mutex and no observed token.
-pub(crate) fn on_mutex(mut r: Processor, position: u8) -> Processor
+pub(crate) fn on_mutex(r: Processor, position: u8) -> Processor
     ensures { λ x. ⌜ x ≡ on-mutex position r ⌝ }
 {
-    let none = Token {
-        processor: 0,
-        sequence: 0,
-    };
-    r.position = position;
-    r.observed = none;
-    r
+    observing(
+        r,
+        position,
+        Token {
+            processor: 0,
+            sequence: 0,
+        },
+    )
 }
 
 // To stand at a line that has a mutex and an observed token.
-pub(crate) fn observing(mut r: Processor, position: u8, token: Token) -> Processor
+pub(crate) fn observing(r: Processor, position: u8, token: Token) -> Processor
     ensures { λ x. ⌜ x ≡ observing position token r ⌝ }
 {
-    r.position = position;
-    r.observed = token;
-    r
+    Processor {
+        position,
+        current: r.current,
+        transit: r.transit,
+        mutex: r.mutex,
+        observed: Token {
+            processor: token.processor,
+            sequence: token.sequence,
+        },
+        sequence: r.sequence,
+        answer: r.answer,
+    }
+}
+
+// The same registers, field by field: a compiler then keeps each in a register of its own.
+pub(crate) fn by_fields(r: Processor) -> Processor
+    ensures { λ x. ⌜ x ≡ r ⌝ }
+{
+    observing(r, r.position, r.observed)
+}
+
+// The same of a mutex.
+pub(crate) fn mutex_by_fields(x: Mutex) -> Mutex
+    ensures { λ r. ⌜ r ≡ x ⌝ }
+{
+    let token = x.token;
+    Mutex {
+        count: x.count,
+        owner: x.owner,
+        token: Token {
+            processor: token.processor,
+            sequence: token.sequence,
+        },
+    }
 }
 
 // No thread moves.

@@ -1,16 +1,29 @@
 //! The static library and the independent implementation on the same input in one run: what each
-//! takes, and the ratio. Times are medians over rounds in which the two take turns.
+//! takes, and the ratio. Times are medians over rounds in which the two take turns. The calls on a
+//! session are not in the library: the proved side of those lines is the program `measure`, whose
+//! path is in HUMDAYEG_MEASURE.
 
 use differential::sessions::{drive, Session};
 use differential::{expected, read, replay, MOST_PICTURE};
 use independent::machine::{State, MOST_MOVES};
 use independent::picture;
 use independent::random::Rates;
-use independent::record::Snapshot;
+use independent::record::{Record, Snapshot};
+use independent::session::{make_move, start, undo, JOURNAL};
+use std::env;
 use std::hint::black_box;
+use std::io::Write;
+use std::process::{Command, Stdio};
 use std::time::Instant;
 
 const ROUNDS: usize = 31;
+
+/// Rounds where the proved side is a program, run twice for each session.
+const PROGRAM_ROUNDS: usize = 11;
+
+/// How often one run makes a session's moves, and how often it steps back from the last.
+const MOVE_ROUNDS: u8 = 10;
+const BACK_ROUNDS: u8 = 100;
 
 /// Nanoseconds that a closure takes.
 fn time(run: &mut dyn FnMut()) -> f64 {
@@ -26,10 +39,21 @@ fn median(mut times: Vec<f64>) -> f64 {
 
 /// Measures both in turns and prints a line: each's time for one of `count` units, and the ratio.
 fn compare(what: &str, count: usize, mut proved: impl FnMut(), mut rust: impl FnMut()) {
+    compare_times(what, ROUNDS, count, || time(&mut proved), || time(&mut rust));
+}
+
+/// The same of two that give their own times.
+fn compare_times(
+    what: &str,
+    rounds: usize,
+    count: usize,
+    mut proved: impl FnMut() -> f64,
+    mut rust: impl FnMut() -> f64,
+) {
     let (mut ours, mut theirs) = (Vec::new(), Vec::new());
-    for _ in 0..ROUNDS {
-        ours.push(time(&mut proved) / count as f64);
-        theirs.push(time(&mut rust) / count as f64);
+    for _ in 0..rounds {
+        ours.push(proved() / count as f64);
+        theirs.push(rust() / count as f64);
     }
     let (ours, theirs) = (median(ours), median(theirs));
     let a_second = |nanoseconds: f64| 1e9 / nanoseconds;
@@ -49,6 +73,89 @@ fn replay_in_rust(session: &Session, buffer: &mut [u8]) -> u8 {
         }
     }
     picture::write(&Snapshot::of(&state), buffer)
+}
+
+/// What the program `measure` is to do in each round.
+#[derive(Clone, Copy)]
+enum Job {
+    Moves = 0,
+    StepBack = 1,
+}
+
+/// Nanoseconds of one run of the program, which must count so many accepted answers.
+fn run_program(job: Job, rounds: u8, session: &Session, accepted: usize) -> f64 {
+    let path = env::var_os("HUMDAYEG_MEASURE").expect("HUMDAYEG_MEASURE is not set");
+    let input = [&[job as u8, rounds], &session.table[..], &session.moves].concat();
+    let mut output = Vec::new();
+    let took = time(&mut || {
+        let mut command = Command::new(&path);
+        let mut child = command.stdin(Stdio::piped()).stdout(Stdio::piped()).spawn().unwrap();
+        child.stdin.take().unwrap().write_all(&input).unwrap();
+        output = child.wait_with_output().unwrap().stdout;
+    });
+    assert_eq!(output, format!("{accepted}\n").into_bytes());
+    took
+}
+
+/// Nanoseconds that the program spends on the rounds of each session: what it takes beyond a run
+/// of no rounds.
+fn in_program(job: Job, rounds: u8, sessions: &[Session], accepted: usize) -> f64 {
+    let spent = |session| {
+        run_program(job, rounds, session, usize::from(rounds) * accepted)
+            - run_program(job, 0, session, 0)
+    };
+    sessions.iter().map(spent).sum()
+}
+
+/// The record after a session's moves, each a checked one, with its journal.
+fn make_in_rust(session: &Session, journal: &mut [u8]) -> Record {
+    let mut record = start(expected::config(session.table)).value;
+    for made in session.moves.chunks_exact(3) {
+        let answer = make_move(black_box(&record), journal, [made[0], made[1], made[2]]);
+        assert_eq!(answer.number, 0);
+        record = answer.value;
+    }
+    record
+}
+
+/// The lines on a session's calls, over sessions of 4,000 moves. Both sides go through all rounds
+/// of a session before the next.
+fn compare_sessions(sessions: &[Session]) {
+    let most = usize::from(MOST_MOVES);
+    assert!(sessions.iter().all(|session| session.moves.len() == 3 * most));
+    let mut journal = [0; JOURNAL];
+    compare_times(
+        "a checked move",
+        PROGRAM_ROUNDS,
+        usize::from(MOVE_ROUNDS) * most * sessions.len(),
+        || in_program(Job::Moves, MOVE_ROUNDS, sessions, most),
+        || {
+            time(&mut || {
+                for session in sessions {
+                    for _ in 0..MOVE_ROUNDS {
+                        black_box(make_in_rust(session, &mut journal));
+                    }
+                }
+            })
+        },
+    );
+    let made: Vec<(Record, [u8; JOURNAL])> =
+        sessions.iter().map(|session| (make_in_rust(session, &mut journal), journal)).collect();
+    compare_times(
+        "a step back from 4,000 moves",
+        PROGRAM_ROUNDS,
+        usize::from(BACK_ROUNDS) * sessions.len(),
+        || in_program(Job::StepBack, BACK_ROUNDS, sessions, 1),
+        || {
+            time(&mut || {
+                for (record, journal) in &made {
+                    for _ in 0..BACK_ROUNDS {
+                        assert_eq!(black_box(undo(black_box(record), journal)).number, 0);
+                    }
+                }
+            })
+        },
+    );
 }
 
 fn main() {
@@ -107,4 +214,5 @@ fn main() {
             }
         },
     );
+    compare_sessions(&sessions);
 }

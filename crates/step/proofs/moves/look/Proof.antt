@@ -7,12 +7,22 @@ use Rattle.step.proofs.moves.look.Tie as tie
 returns : tie.Need-returns
 returns c =
     rw (
-      c .take2 .ensures,
-      c .before .take .ensures,
-      c .before .before .before .mutex .ensures,
-      c .before .before .before .before .processor .ensures,
+      c .found2 .ensures,
+      c .before .found .ensures,
+      c .before .before .next-in2 .ensures,
+      c .before .before .before .get2 .ensures,
+      c .before .before .before .before .next-in .ensures,
+      c .before .before .before .before .before .get .ensures,
     )
 
 pub look-spec : {M : Type 1} → statement M
 look-spec =
-    tie.close (tie.spec (λ c κs. search needs) (λ c κs. search needs) (λ c κs. search needs) (λ c κs. search needs) returns)
+    tie.close
+    (tie.spec
+    (λ c κs. search needs)
+    (λ c κs. search needs)
+    (λ c κs. search needs)
+    (λ c κs. search needs)
+    (λ c κs. search needs)
+    (λ c κs. search needs)
+    returns)

@@ -1,23 +1,17 @@
 -- `step::moves::moved` meets its contract.
 -- Assumes nothing.
-use borrow.Author.Tests.{eq-eqb, ne-eqb}
-use Rattle.step.specs.Model.{moved-of}
+use mathlib.Core.Path.{_≡_, ap, _∙_}
 use borrow.Author.Needs.{needs}
+use Rattle.step.specs.declared.Run.{Run}
+use Rattle.step.specs.declared.Moved.{Moved}
+use Rattle.step.proofs.InPlace.{moved-is}
 use Rattle.step.proofs.moves.moved.Statement.{statement}
 use Rattle.step.proofs.moves.moved.Tie as tie
 
 returns : tie.Need-returns
-unfolding moved-of
 returns c =
-    rw (
-      ← c .before .before .refusal .ensures,
-      eq-eqb _ _ (c .before .if1 .taken),
-      c .stepped .ensures,
-    )
-
-returns-2 : tie.Need-returns-2
-unfolding moved-of
-returns-2 c = rw (← c .before .refusal .ensures, ne-eqb _ _ (c .if1 .left))
+    let a = c .before .before .before .args in
+    ap (λ (r : Run). record { refusal = r .refusal; state = r .state }) (c .before .run .ensures) ∙ moved-is (a .s) (a .p) (a .action) (a .operand)
 
 pub moved-spec : {M : Type 1} → statement M
-moved-spec = tie.close (tie.spec (λ c κs. search needs) (λ c κs. search needs) returns returns-2)
+moved-spec = tie.close (tie.spec (λ c. search needs) (λ c κs. search needs) returns)

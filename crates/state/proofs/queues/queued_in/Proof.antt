@@ -1,7 +1,8 @@
--- `state::chain::queued_in` meets its contract.
+-- `state::queues::queued_in` meets its contract.
+-- Assumes nothing.
 use borrow.Author.Tests.{eq-eqb, ne-eqb}
-use Rattle.state.proofs.chain.queued_in.Statement.{statement}
-use Rattle.state.proofs.chain.queued_in.Tie as tie
+use Rattle.state.proofs.queues.queued_in.Statement.{statement}
+use Rattle.state.proofs.queues.queued_in.Tie as tie
 
 returns : tie.Need-returns
 returns c = simp (eq-eqb _ _ (c .if1 .taken))

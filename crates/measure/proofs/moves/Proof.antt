@@ -1,0 +1,26 @@
+-- `measure::moves` meets its contract.
+use mathlib.Core.Path.{_≡_}
+use lib.ListN.{length}
+use borrow.Author.Needs.{needs}
+use Rattle.measure.proofs.moves.Statement.{statement}
+use Rattle.measure.proofs.moves.Tie as tie
+
+abbrev Inv-loop : tie.InvT-loop
+Inv-loop job rounds journal₀ accepted₀ left₀ journal accepted left = length journal ≡ length journal₀
+
+abbrev μ-loop : tie.MeasureT-loop
+μ-loop job rounds journal₀ accepted₀ left₀ journal accepted left = left
+
+pub moves-spec : {M : Type 1} → statement M
+moves-spec =
+    tie.close
+    (tie.spec
+    Inv-loop
+    μ-loop
+    (λ c. search needs)
+    (λ c κs. search needs)
+    (λ c. search needs)
+    (λ c. search needs)
+    (λ c. search needs)
+    (λ c. search needs)
+    (λ c. search needs))

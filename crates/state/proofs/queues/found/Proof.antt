@@ -1,0 +1,14 @@
+-- `state::queues::found` meets its contract.
+-- Assumes nothing.
+use borrow.Author.Tests.{eq-eqb, ne-eqb}
+use Rattle.state.proofs.queues.found.Statement.{statement}
+use Rattle.state.proofs.queues.found.Tie as tie
+
+returns : tie.Need-returns
+returns c = rw (eq-eqb _ _ (c .if1 .taken))
+
+returns-2 : tie.Need-returns-2
+returns-2 c = rw (ne-eqb _ _ (c .if1 .left))
+
+pub found-spec : {M : Type 1} → statement M
+found-spec = tie.close (tie.spec returns returns-2)

@@ -1,0 +1,28 @@
+-- `step::cause::go_refusal` meets its contract.
+-- Assumes nothing.
+use borrow.Author.Tests.{eq-eqb, ne-eqb}
+use Rattle.step.specs.Model.{go-refusal}
+use borrow.Author.Needs.{needs}
+use Rattle.step.proofs.cause.go_refusal.Statement.{statement}
+use Rattle.step.proofs.cause.go_refusal.Tie as tie
+
+returns : tie.Need-returns
+unfolding go-refusal
+returns c = rw (eq-eqb _ _ (c .if1 .taken))
+
+returns-2 : tie.Need-returns-2
+unfolding go-refusal
+returns-2 c = rw (ne-eqb _ _ (c .before .before .if1 .left), ← c .before .breaks .ensures, c .if2 .taken)
+
+returns-3 : tie.Need-returns-3
+unfolding go-refusal
+returns-3 c = rw (ne-eqb _ _ (c .before .before .if1 .left), ← c .before .breaks .ensures, c .if2 .left)
+
+pub go-refusal-spec : {M : Type 1} → statement M
+go-refusal-spec =
+    tie.close
+    (tie.spec
+    returns
+    (λ c κs. search needs)
+    returns-2
+    returns-3)
