@@ -16,7 +16,7 @@ use Rattle.state.specs.Model.{start-record}
 use Rattle.shown.proofs.Reached.{reached-allowed}
 use Rattle.step.specs.declared.Moved.{Moved}
 use Rattle.step.specs.declared.Run.{Run}
-use Rattle.step.specs.Model.{moved-of, run-of}
+use Rattle.step.specs.Model.{moved-of, moved-at, run-of}
 use Rattle.step.proofs.InPlace.{Ends, run-ends}
 use Rattle.reference.specs.Lists.{if-zero}
 use Rattle.reference.specs.State.{State}
@@ -133,8 +133,7 @@ module _ (c : Config) (right : config-cause c ≡ 0) (j : List ℕ) where
 -- ---- the code's replay, as a whole
 
 module _ (c : Config) (right : config-cause c ≡ 0) (j : List ℕ) where
-  more : (i : ℕ) (x : Record) → Going c j i x → i < length j / 3 → moved-of x (getD j (3 * i) 0) (getD j (3 * i + 1) 0) (getD j (3 * i + 2) 0) .refusal ≡ 0 →
-      Going c j (i + 1) (moved-of x (getD j (3 * i) 0) (getD j (3 * i + 1) 0) (getD j (3 * i + 2) 0) .state)
+  more : (i : ℕ) (x : Record) → Going c j i x → i < length j / 3 → moved-at x j i .refusal ≡ 0 → Going c j (i + 1) (moved-at x j i .state)
   more i x g l z = going-more c right j i x g _ refl (omega arith) z
 
   module _ (s : Record) (e : s ≡ start-record (c .P) (c .T) (c .M) (c .B)) (r : Run) (ran : r ≡ run-of s j) where

@@ -5,8 +5,9 @@ ghost use Rattle.state.specs.Record.{thread-in};
 ghost use Rattle.state.specs.Rules.{placed-in, chains-in};
 ghost use Rattle.rules.specs.Bytes.{thread-in-bytes};
 ghost use Rattle.rules.specs.Walk.{has-bit, with-bit, walk-from, walk-queues, queued, none-missed, record-bytes};
-use crate::read;
 use state::Thread;
+use state::chain::first_at;
+use state::queues::get;
 
 // Whether all is well so far, and the threads met so far: bit k for thread k.
 pub(crate) struct Walked {
@@ -35,9 +36,9 @@ pub(crate) fn thread_in_bytes(threads: &[u8], k: u8) -> Thread
     if there {
         let at = 4 * ((k as usize) - 1);
         Thread {
-            status: read::byte_in(threads, at),
-            holder: read::byte_in(threads, at + 1),
-            next: read::byte_in(threads, at + 2),
+            status: get(threads, at),
+            holder: get(threads, at + 1),
+            next: get(threads, at + 2),
         }
     } else {
         Thread {
@@ -88,13 +89,13 @@ pub(crate) fn walk(threads: &[u8], q: u8, first: u8, before: u64) -> Walked
 pub(crate) fn walk_queues(threads: &[u8], firsts: [u8; 9], m: u8) -> Walked
     ensures { λ r. ⌜ r ≡ walk-queues (thread-in-bytes (now (threads .entry))) (λ q. getD firsts q 0) m ⌝ }
 {
-    let ready = walk(threads, 0, read::first_in(firsts, 0), 0);
+    let ready = walk(threads, 0, first_at(firsts, 0), 0);
     let mut ok = ready.ok;
     let mut met = ready.met;
     let mut q: u8 = 0;
     while q < m {
         q += 1;
-        let w = walk(threads, q, read::first_in(firsts, q), met);
+        let w = walk(threads, q, first_at(firsts, q), met);
         ok = ok & w.ok;
         met = w.met;
     }

@@ -5,13 +5,13 @@ ghost use lib.ListN.{getD};
 ghost use Rattle.state.specs.Record.{thread-in, processor-in, mutex-in};
 ghost use Rattle.reference.specs.Lists.{in-range};
 ghost use Rattle.state.specs.Rules.{each, token-ok, processor-ok, mutex-ok, holder-ok, next-ok, thread-ok, fields-ok};
-use crate::read;
 use crate::register;
 use state::Mutex;
 use state::Processor;
 use state::State;
 use state::Thread;
 use state::Token;
+use state::chain::first_at;
 
 pub(crate) fn token_ok(p: u8, t: Token) -> bool
     ensures { λ r. ⌜ r ≡ token-ok p t ⌝ }
@@ -97,7 +97,7 @@ pub(crate) fn processors_ok(p: u8, t: u8, m: u8, processors: [Processor; 9]) -> 
         let x = if j < 9 {
             processors[j]
         } else {
-            read::no_processor()
+            Processor::zero()
         };
         ok = ok & processor_ok(p, t, m, x);
     }
@@ -112,8 +112,8 @@ pub(crate) fn mutexes_ok(p: u8, t: u8, m: u8, firsts: [u8; 9], mutexes: [Mutex; 
     while i < m {
         i += 1;
         let j = i as usize;
-        let x = if j < 9 { mutexes[j] } else { read::no_mutex() };
-        ok = ok & mutex_ok(p, t, read::first_in(firsts, i), x);
+        let x = if j < 9 { mutexes[j] } else { Mutex::zero() };
+        ok = ok & mutex_ok(p, t, first_at(firsts, i), x);
     }
     ok
 }
@@ -126,11 +126,7 @@ pub(crate) fn threads_ok(p: u8, t: u8, m: u8, threads: [Thread; 33]) -> bool
     while k < t {
         k += 1;
         let i = k as usize;
-        let x = if i < 33 {
-            threads[i]
-        } else {
-            read::no_thread()
-        };
+        let x = if i < 33 { threads[i] } else { Thread::zero() };
         ok = ok & thread_ok(p, t, m, x);
     }
     ok
@@ -151,7 +147,7 @@ pub fn fields_ok(s: State) -> bool
     let processors = s.processors;
     let mutexes = s.mutexes;
     let sizes = sizes_ok(s.p, s.t, s.m);
-    let first = read::first_in(firsts, 0) <= s.t;
+    let first = first_at(firsts, 0) <= s.t;
     let processors_fit = processors_ok(s.p, s.t, s.m, processors);
     let mutexes_fit = mutexes_ok(s.p, s.t, s.m, firsts, mutexes);
     let threads_fit = threads_ok(s.p, s.t, s.m, threads);

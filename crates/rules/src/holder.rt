@@ -3,7 +3,6 @@ ghost use mathlib.Core.Path.{_≡_};
 ghost use Rattle.state.specs.Record.{thread-in, processor-in};
 ghost use Rattle.state.specs.Rules.{each, holders-ok};
 ghost use Rattle.rules.specs.Holder.{register-holds, registers-hold, thread-held};
-use crate::read;
 use state::Processor;
 use state::State;
 use state::Thread;
@@ -33,20 +32,12 @@ pub(crate) fn registers_match(threads: [Thread; 33], processors: [Processor; 9],
         let x = if j < 9 {
             processors[j]
         } else {
-            read::no_processor()
+            Processor::zero()
         };
         let c = x.current as usize;
-        let current = if c < 33 {
-            threads[c]
-        } else {
-            read::no_thread()
-        };
+        let current = if c < 33 { threads[c] } else { Thread::zero() };
         let h = x.transit as usize;
-        let transit = if h < 33 {
-            threads[h]
-        } else {
-            read::no_thread()
-        };
+        let transit = if h < 33 { threads[h] } else { Thread::zero() };
         ok = ok
             & (register_matches(current, 3, p, x.current)
                 & register_matches(transit, 4, p, x.transit));
@@ -62,16 +53,12 @@ pub(crate) fn threads_match(threads: [Thread; 33], processors: [Processor; 9], n
     while k < n {
         k += 1;
         let i = k as usize;
-        let x = if i < 33 {
-            threads[i]
-        } else {
-            read::no_thread()
-        };
+        let x = if i < 33 { threads[i] } else { Thread::zero() };
         let j = x.holder as usize;
         let holder = if j < 9 {
             processors[j]
         } else {
-            read::no_processor()
+            Processor::zero()
         };
         ok = ok & thread_matches(x, holder, k);
     }

@@ -5,7 +5,6 @@ ghost use Rattle.state.specs.Rules.{broken-rule, state-ok, session-ok};
 pub mod chain;
 pub mod field;
 pub mod holder;
-mod read;
 mod register;
 mod zero;
 

@@ -1,12 +1,13 @@
-// Reads and writes of the record's arrays at any index: past the end a read gives zero and a write does nothing.
+// The zero records, and reads and writes of the record's arrays at any index: past the end a read gives zero and a write does nothing.
 ghost use mathlib.Core.Path.{_≡_};
 ghost use lib.ListN.{set};
-ghost use Rattle.state.specs.Record.{zero-processor, zero-mutex, processor-in, mutex-in, processor-of, mutex-of};
+ghost use Rattle.state.specs.Record.{zero-processor, zero-mutex, zero-thread, processor-in, mutex-in, processor-of, mutex-of};
 ghost use Rattle.state.specs.Model.{with-processor, with-mutex, with-chains};
 use crate::Chains;
 use crate::Mutex;
 use crate::Processor;
 use crate::State;
+use crate::Thread;
 use crate::Token;
 
 impl Processor {
@@ -39,6 +40,18 @@ impl Mutex {
                 processor: 0,
                 sequence: 0,
             },
+        }
+    }
+}
+
+impl Thread {
+    pub fn zero() -> Thread
+        ensures { λ r. ⌜ r ≡ zero-thread ⌝ }
+    {
+        Thread {
+            status: 0,
+            holder: 0,
+            next: 0,
         }
     }
 }

@@ -8,15 +8,7 @@ pub fn thread_at(threads: [Thread; 33], k: u8) -> Thread
     ensures { λ r. ⌜ r ≡ thread-in threads k ⌝ }
 {
     let i = k as usize;
-    if i < 33 {
-        threads[i]
-    } else {
-        Thread {
-            status: 0,
-            holder: 0,
-            next: 0,
-        }
-    }
+    if i < 33 { threads[i] } else { Thread::zero() }
 }
 
 pub fn with_thread(threads: [Thread; 33], k: u8, t: Thread) -> [Thread; 33]

@@ -134,11 +134,7 @@ fn thread_in(bytes: &[u8], k: u8) -> Thread
 pub fn threads_of(bytes: &[u8]) -> [Thread; 33]
     ensures { λ r. ⌜ r ≡ tabulate (thread-from (now (bytes .entry))) 0 33 ⌝ }
 {
-    let mut threads = [Thread {
-        status: 0,
-        holder: 0,
-        next: 0,
-    }; 33];
+    let mut threads = [Thread::zero(); 33];
     let mut k: u8 = 0;
     while k < 33 {
         let at = k as usize;

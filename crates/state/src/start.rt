@@ -15,21 +15,9 @@ impl State {
     pub fn zero() -> State
         ensures { λ r. ⌜ r ≡ zero-state ⌝ }
     {
-        let none = Token {
-            processor: 0,
-            sequence: 0,
-        };
-        let thread = Thread {
-            status: 0,
-            holder: 0,
-            next: 0,
-        };
-        let processor = standing_at(0, 0);
-        let mutex = Mutex {
-            count: 0,
-            owner: 0,
-            token: none,
-        };
+        let thread = Thread::zero();
+        let processor = Processor::zero();
+        let mutex = Mutex::zero();
         let firsts = [0u8; 9];
         let threads = [thread; 33];
         let processors = [processor; 9];
@@ -136,21 +124,13 @@ fn first_thread(p: u8, b: u8, k: u8) -> Thread
             next: 0,
         };
     }
-    Thread {
-        status: 0,
-        holder: 0,
-        next: 0,
-    }
+    Thread::zero()
 }
 
 fn first_threads(p: u8, b: u8) -> [Thread; 33]
     ensures { λ r. ⌜ r ≡ tabulate (first-thread p b) 0 33 ⌝ }
 {
-    let mut threads = [Thread {
-        status: 0,
-        holder: 0,
-        next: 0,
-    }; 33];
+    let mut threads = [Thread::zero(); 33];
     let mut k: u8 = 0;
     while k < 33 {
         let at = k as usize;

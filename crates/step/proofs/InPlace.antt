@@ -24,8 +24,7 @@ use Rattle.step.specs.declared.Effect.{Effect}
 use Rattle.step.specs.declared.Sizes.{Sizes}
 use Rattle.step.specs.declared.Moved.{Moved}
 use Rattle.step.specs.declared.Run.{Run}
-use Rattle.step.specs.Model as model
-use Rattle.step.specs.Model.{target-of, view-of, seen-of, carried, carried-firsts, carried-threads, act-effect, up-to, gathered-of, cause-of, step-breaks-of, refusal-of, stepped-of, moved-of, refusal-seen, go-refusal, call-refusal, operand-fits, operand-right, breaks-at, ran, run-from, run-of}
+use Rattle.step.specs.Model.{target-of, view-of, seen-of, carried, carried-firsts, carried-threads, act-effect, up-to, gathered-of, cause-of, step-breaks-of, refusal-of, stepped-of, moved-of, moved-at, refusal-seen, go-refusal, call-refusal, breaks-at, ran, run-from, run-of}
 use Rattle.step.proofs.Put.{carried-first, carried-bytes, length-firsts, length-threads}
 
 abbrev pub sizes-of : State → Sizes
@@ -68,13 +67,15 @@ module _ (s : State) (p a o : ℕ) where
   unfolding refusal-seen call-refusal refusal-of cause-of step-breaks-of
   refusal-call h = rw (ne-eqb a 0 h, owner-same (eqb a 3) refl) (call-last _)
 
-refusal-go : (s : State) (p o : ℕ) → refusal-seen (sizes-of s) (view-of s p (processor-of s p .mutex)) (thread-of s o .status) 0 o ≡ refusal-of s p 0 o
+refusal-go : (s : State) (p o : ℕ) →
+    refusal-seen (sizes-of s) (view-of s p (processor-of s p .mutex)) (thread-of s o .status) 0 o ≡ refusal-of s p 0 o
 unfolding refusal-seen go-refusal refusal-of cause-of step-breaks-of
 refusal-go s p o =
     go-last (not (in-range 1 (s .p) p)) (not (eqb o 0)) (leb 4000 (s .applied)) (eqb (processor-of s p .position) 0)
     (breaks-at (s .t) (view-of s p (processor-of s p .mutex)))
 
-pub refusal-is : (s : State) (p a o : ℕ) → refusal-seen (sizes-of s) (view-of s p (target-of a (processor-of s p .mutex) o)) (thread-of s o .status) a o ≡ refusal-of s p a o
+pub refusal-is : (s : State) (p a o : ℕ) →
+    refusal-seen (sizes-of s) (view-of s p (target-of a (processor-of s p .mutex) o)) (thread-of s o .status) a o ≡ refusal-of s p a o
 refusal-is s p zero o = refusal-go s p o
 refusal-is s p (suc a) o = refusal-call s p (suc a) o (λ e. omega arith)
 
@@ -94,19 +95,22 @@ module _ (s : State) (p a o : ℕ) where
 
 -- ---- one more move, a refused one, and the end
 
-pub run-more : (j : List ℕ) (n i : ℕ) (s : State) → i < n → refusal-of s (getD j (3 * i) 0) (getD j (3 * i + 1) 0) (getD j (3 * i + 2) 0) ≡ 0 →
-    run-from j (n - i) i s ≡ run-from j (n - (i + 1)) (i + 1) (stepped-of s (getD j (3 * i) 0) (getD j (3 * i + 1) 0) (getD j (3 * i + 2) 0))
-unfolding run-from moved-of
-run-more j n i s h z =
-    let k : n - i ≡ suc (n - (i + 1)) = omega arith in
-    rw (k, z)
+module _ (j : List ℕ) (n i : ℕ) (s : State) (h : i < n) where
+  abbrev refusal : ℕ
+  refusal = refusal-of s (getD j (3 * i) 0) (getD j (3 * i + 1) 0) (getD j (3 * i + 2) 0)
 
-pub run-stop : (j : List ℕ) (n i : ℕ) (s : State) → i < n → (refusal-of s (getD j (3 * i) 0) (getD j (3 * i + 1) 0) (getD j (3 * i + 2) 0) ≡ 0 → ⊥) →
-    run-from j (n - i) i s ≡ ran (refusal-of s (getD j (3 * i) 0) (getD j (3 * i + 1) 0) (getD j (3 * i + 2) 0)) i s
-unfolding run-from moved-of
-run-stop j n i s h z =
-    let k : n - i ≡ suc (n - (i + 1)) = omega arith in
-    rw (k, ne-eqb _ 0 z)
+  pub run-more : refusal ≡ 0 →
+      run-from j (n - i) i s ≡ run-from j (n - (i + 1)) (i + 1) (stepped-of s (getD j (3 * i) 0) (getD j (3 * i + 1) 0) (getD j (3 * i + 2) 0))
+  unfolding run-from moved-of
+  run-more z =
+      let k : n - i ≡ suc (n - (i + 1)) = omega arith in
+      rw (k, z)
+
+  pub run-stop : (refusal ≡ 0 → ⊥) → run-from j (n - i) i s ≡ ran refusal i s
+  unfolding run-from moved-of
+  run-stop z =
+      let k : n - i ≡ suc (n - (i + 1)) = omega arith in
+      rw (k, ne-eqb _ 0 z)
 
 pub run-end : (j : List ℕ) (n : ℕ) (s : State) → run-from j (n - n) n s ≡ ran 0 n s
 unfolding run-from
@@ -117,8 +121,8 @@ run-end j n s =
 -- what each accepted move keeps, all moves keep: to the end, or to the first refused move
 module _ (j : List ℕ) (G : ℕ → State → Type 0) (last : ℕ)
     (more :
-    (i : ℕ) (s : State) → G i s → i < last → moved-of s (getD j (3 * i) 0) (getD j (3 * i + 1) 0) (getD j (3 * i + 2) 0) .refusal ≡ 0 →
-    G (i + 1) (moved-of s (getD j (3 * i) 0) (getD j (3 * i + 1) 0) (getD j (3 * i + 2) 0) .state))
+    (i : ℕ) (s : State) → G i s → i < last → moved-at s j i .refusal ≡ 0 →
+    G (i + 1) (moved-at s j i .state))
   where
     -- where a run from move i on ends
     pub record Ends (r : Run) : Type 0 where
@@ -126,7 +130,7 @@ module _ (j : List ℕ) (G : ℕ → State → Type 0) (last : ℕ)
       pub whole : r .refusal ≡ 0 → r .made ≡ last
       pub part : (r .refusal ≡ 0 → ⊥) → r .made < last
       pub cause : (r .refusal ≡ 0 → ⊥) →
-          r .refusal ≡ moved-of (r .state) (getD j (3 * r .made) 0) (getD j (3 * r .made + 1) 0) (getD j (3 * r .made + 2) 0) .refusal
+          r .refusal ≡ moved-at (r .state) j (r .made) .refusal
 
     pub run-ends : (n i : ℕ) (s : State) → G i s → i + n ≡ last → Ends (run-from j n i s)
     unfolding run-from
@@ -135,7 +139,7 @@ module _ (j : List ℕ) (G : ℕ → State → Type 0) (last : ℕ)
         by (eqb (here .refusal) 0) refl (λ k. run-ends n (i + 1) (here .state) k (omega arith))
       where
         here : Moved
-        here = moved-of s (getD j (3 * i) 0) (getD j (3 * i + 1) 0) (getD j (3 * i + 2) 0)
+        here = moved-at s j i
 
         by : (b : Bool) → eqb (here .refusal) 0 ≡ b → (G (i + 1) (here .state) → Ends (run-from j n (i + 1) (here .state))) →
             Ends (choose b (run-from j n (i + 1) (here .state)) (ran (here .refusal) i s))
@@ -143,7 +147,8 @@ module _ (j : List ℕ) (G : ℕ → State → Type 0) (last : ℕ)
         by false t rest = record { reached = g; whole = λ z. absurd (eqb-false (here .refusal) 0 t z); part = λ z. omega arith; cause = λ z. refl }
 
 -- one move by itself
-pub moved-is : (s : State) (p a o : ℕ) → record { refusal = run-of s (p ∷ a ∷ o ∷ []) .refusal; state = run-of s (p ∷ a ∷ o ∷ []) .state } ≡ moved-of s p a o
+pub moved-is : (s : State) (p a o : ℕ) →
+    record { refusal = run-of s (p ∷ a ∷ o ∷ []) .refusal; state = run-of s (p ∷ a ∷ o ∷ []) .state } ≡ moved-of s p a o
 unfolding run-from moved-of
 moved-is s p a o = by (eqb (refusal-of s p a o) 0) refl
   where
@@ -224,30 +229,36 @@ module _ (start : State) (j : List ℕ) (i : ℕ) (s : State) (f b : List ℕ) (
           (n : State) (f' b' : List ℕ) (ps' : List Processor) (xs' : List Mutex) (n-is : n ≡ with-applied (up-to 65535 (s .applied)) s)
           (f-is : f' ≡ carried-firsts f (e .transfer)) (b-is : b' ≡ carried-threads f b p (e .transfer)) (ps-is : ps' ≡ set ps p (e .proc))
           (xs-is : xs' ≡ set xs m (e .mutex)) where
+        abbrev threads-after : Effect → List Thread
+        threads-after q = carried (record-of .chains) p (q .transfer) .threads
+
         abbrev made : Effect → ℕ → State
-        made q w =
-            gathered-of record-of (carried-firsts f (q .transfer)) (carried (record-of .chains) p (q .transfer) .threads) (set ps p (q .proc)) (set xs w (q .mutex))
-            (up-to 65535 (s .applied))
+        made q w = gathered-of record-of (carried-firsts f (q .transfer)) (threads-after q) (set ps p (q .proc)) (set xs w (q .mutex)) (up-to 65535 (s .applied))
 
         makes : made e m ≡ stepped-of record-of p a o
-        makes = ap (λ (q : Effect). made q m) (e-is ∙ ap (act-effect a o) sees) ∙ ap (made (act-effect a o (view-of record-of p (target-of a (processor-of record-of p .mutex) o)))) target-is ∙ stepped-is record-of p a o
+        makes =
+            ap (λ (q : Effect). made q m) (e-is ∙ ap (act-effect a o) sees) ∙
+            ap (made (act-effect a o (view-of record-of p (target-of a (processor-of record-of p .mutex) o)))) target-is ∙
+            stepped-is record-of p a o
 
-        gathers : gathered-of n f' (carried (record-of .chains) p (e .transfer) .threads) ps' xs' (n .applied) ≡ made e m
+        gathers : gathered-of n f' (threads-after e) ps' xs' (n .applied) ≡ made e m
         gathers = rw (n-is, f-is, ps-is, xs-is)
 
-        bytes-more : b' ≡ bytes-of (carried (record-of .chains) p (e .transfer) .threads)
+        bytes-more : b' ≡ bytes-of (threads-after e)
         bytes-more = b-is ∙ ap (λ (l : List ℕ). carried-threads f l p (e .transfer)) (g .bytes) ∙ carried-bytes (record-of .chains) p (e .transfer)
 
         pub running-more : Running start j (i + 1) n f' b' ps' xs'
         running-more =
             record {
-              threads = carried (record-of .chains) p (e .transfer) .threads;
+              threads = threads-after e;
               bytes = bytes-more;
               firsts-size = ap length f-is ∙ length-firsts f (e .transfer) ∙ g .firsts-size;
               threads-size =
-                  omega (arith, ap length bytes-more, bytes-length (carried (record-of .chains) p (e .transfer) .threads), ap length b-is, length-threads b f p (e .transfer), bytes-size);
+                  omega (arith, ap length bytes-more, bytes-length (threads-after e), ap length b-is, length-threads b f p (e .transfer), bytes-size);
               processors-size = ap length ps-is ∙ length-set ps p (e .proc) ∙ g .processors-size;
               mutexes-size = ap length xs-is ∙ length-set xs m (e .mutex) ∙ g .mutexes-size;
               left =
-                  ap (run-from j (length j / 3 - (i + 1)) (i + 1)) (gathers ∙ makes) ∙ sym (run-more j (length j / 3) i record-of h (sym (caused k k-is) ∙ z)) ∙ g .left;
+                  ap (run-from j (length j / 3 - (i + 1)) (i + 1)) (gathers ∙ makes) ∙
+                  sym (run-more j (length j / 3) i record-of h (sym (caused k k-is) ∙ z)) ∙
+                  g .left;
             }

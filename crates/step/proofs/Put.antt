@@ -41,7 +41,9 @@ length-firsts f (Mark k status holder) = refl
 
 module _ (b : List ℕ) where
   length-put : (k : ℕ) (t : Thread) → length (with-thread b k t) ≡ length b
-  length-put k t = length-set (set (set b (3 * k) (t .status)) (3 * k + 1) (t .holder)) (3 * k + 2) (t .next) ∙ length-set (set b (3 * k) (t .status)) (3 * k + 1) (t .holder) ∙ length-set b (3 * k) (t .status)
+  length-put k t =
+      let one = set b (3 * k) (t .status) in
+      length-set (set one (3 * k + 1) (t .holder)) (3 * k + 2) (t .next) ∙ length-set one (3 * k + 1) (t .holder) ∙ length-set b (3 * k) (t .status)
 
   pub length-threads : (f : List ℕ) (p : ℕ) (x : Transfer) → length (carried-threads f b p x) ≡ length b
   length-threads f p Stay = refl

@@ -353,12 +353,14 @@ gathered-of s firsts threads processors mutexes n =
 abbrev pub ran : ℕ → ℕ → State → Run
 ran refusal made s = record { refusal = refusal; made = made; state = s }
 
--- the moves of a list of bytes from move i on, at most n of them: until one is refused
+-- move i + 1 of a list of bytes
+abbrev pub moved-at : State → List ℕ → ℕ → Moved
+moved-at s j i = moved-of s (getD j (3 * i) 0) (getD j (3 * i + 1) 0) (getD j (3 * i + 2) 0)
+
+-- the moves of a list of bytes from move i + 1 on, at most n of them: until one is refused
 unfoldable pub run-from : List ℕ → ℕ → ℕ → State → Run
 run-from j zero i s = ran 0 i s
-run-from j (suc n) i s =
-    let r = moved-of s (getD j (3 * i) 0) (getD j (3 * i + 1) 0) (getD j (3 * i + 2) 0) in
-    choose (eqb (r .refusal) 0) (run-from j n (i + 1) (r .state)) (ran (r .refusal) i s)
+run-from j (suc n) i s = choose (eqb (moved-at s j i .refusal) 0) (run-from j n (i + 1) (moved-at s j i .state)) (ran (moved-at s j i .refusal) i s)
 
 abbrev pub run-of : State → List ℕ → Run
 run-of s j = run-from j (length j / 3) 0 s

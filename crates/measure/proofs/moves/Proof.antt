@@ -1,4 +1,5 @@
 -- `measure::moves` meets its contract.
+-- Assumes nothing.
 use mathlib.Core.Path.{_≡_}
 use lib.ListN.{length}
 use borrow.Author.Needs.{needs}

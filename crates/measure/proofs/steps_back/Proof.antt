@@ -1,4 +1,5 @@
 -- `measure::steps_back` meets its contract.
+-- Assumes nothing.
 use borrow.Author.Needs.{needs}
 use Rattle.measure.proofs.steps_back.Statement.{statement}
 use Rattle.measure.proofs.steps_back.Tie as tie

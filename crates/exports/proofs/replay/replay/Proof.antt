@@ -12,35 +12,40 @@ cast-next c =
     let t = c .before .before .before .before .before in
     let s = c .before .before .before .start in
     let r = c .before .before .run in
-    omega (arith, ends-most (table (t .args .p) (t .args .t) (t .args .m) (t .args .b)) (t .pre) (t .args .moves .now) (s .result) (s .ensures) (r .result) (r .ensures))
+    let table = table (t .args .p) (t .args .t) (t .args .m) (t .args .b) in
+    omega (arith, ends-most table (t .pre) (t .args .moves .now) (s .result) (s .ensures) (r .result) (r .ensures))
 
 add-next : tie.Need-add-next
 add-next c =
     let t = c .before .before .before .before .before in
     let s = c .before .before .before .start in
     let r = c .before .before .run in
-    omega (arith, ends-most (table (t .args .p) (t .args .t) (t .args .m) (t .args .b)) (t .pre) (t .args .moves .now) (s .result) (s .ensures) (r .result) (r .ensures))
+    let table = table (t .args .p) (t .args .t) (t .args .m) (t .args .b) in
+    omega (arith, ends-most table (t .pre) (t .args .moves .now) (s .result) (s .ensures) (r .result) (r .ensures))
 
 returns : tie.Need-returns
 returns c =
     let t = c .before .before .before .before .before .before in
     let s = c .before .before .before .before .start in
     let r = c .before .before .before .run in
-    ends-refused (table (t .args .p) (t .args .t) (t .args .m) (t .args .b)) (t .pre) (t .args .moves .now) (s .result) (s .ensures) (r .result) (r .ensures) (c .if1 .taken)
+    let table = table (t .args .p) (t .args .t) (t .args .m) (t .args .b) in
+    ends-refused table (t .pre) (t .args .moves .now) (s .result) (s .ensures) (r .result) (r .ensures) (c .if1 .taken)
 
 returns-2 : tie.Need-returns-2
 returns-2 c =
     let t = c .before .before .before .before .before .before .before in
     let s = c .before .before .before .before .before .start in
     let r = c .before .before .before .before .run in
-    ends-over (table (t .args .p) (t .args .t) (t .args .m) (t .args .b)) (t .pre) (t .args .moves .now) (s .result) (s .ensures) (r .result) (r .ensures) (c .before .if1 .left) (c .if2 .taken)
+    let table = table (t .args .p) (t .args .t) (t .args .m) (t .args .b) in
+    ends-over table (t .pre) (t .args .moves .now) (s .result) (s .ensures) (r .result) (r .ensures) (c .before .if1 .left) (c .if2 .taken)
 
 returns-3 : tie.Need-returns-3
 returns-3 c =
     let t = c .before .before .before .before .before .before .before in
     let s = c .before .before .before .before .before .start in
     let r = c .before .before .before .before .run in
-    ends-all (table (t .args .p) (t .args .t) (t .args .m) (t .args .b)) (t .pre) (t .args .moves .now) (s .result) (s .ensures) (r .result) (r .ensures) (c .before .if1 .left) (c .if2 .left)
+    let table = table (t .args .p) (t .args .t) (t .args .m) (t .args .b) in
+    ends-all table (t .pre) (t .args .moves .now) (s .result) (s .ensures) (r .result) (r .ensures) (c .before .if1 .left) (c .if2 .left)
 
 pub replay-spec : {M : Type 1} → statement M
 replay-spec = tie.close (tie.spec (λ c κs. search needs) (λ c κs. search needs) cast-next add-next returns returns-2 returns-3)

@@ -16,7 +16,7 @@ sub-at c =
 
 returns : tie.Need-returns
 unfolding thread-in-bytes
-returns c = rw (c .before .before .before .if1 .taken, c .before .before .byte-in .ensures, c .before .byte-in2 .ensures, c .byte-in3 .ensures)
+returns c = rw (c .before .before .before .if1 .taken, c .before .before .get .ensures, c .before .get2 .ensures, c .get3 .ensures)
 
 returns-2 : tie.Need-returns-2
 unfolding thread-in-bytes

@@ -18,10 +18,10 @@ abbrev μ-loop : tie.MeasureT-loop
 μ-loop threads firsts m ok₀ met₀ q₀ ok met q = m - q
 
 loop-holds : tie.Need-loop-holds Inv-loop μ-loop
-loop-holds c = (omega arith, rw (queues-none, ← c .before .first-in .ensures) (c .walk .ensures))
+loop-holds c = (omega arith, rw (queues-none, ← c .before .first-at .ensures) (c .walk .ensures))
 
 loop-again : tie.Need-loop-again Inv-loop μ-loop
-loop-again c = (omega arith, queues-next _ _ _ _ _ _ _ (c .before .before .before .before .loop .inv .1) (c .before .before .first-in2 .ensures) (c .before .walk2 .ensures))
+loop-again c = (omega arith, queues-next _ _ _ _ _ _ _ (c .before .before .before .before .loop .inv .1) (c .before .before .first-at2 .ensures) (c .before .walk2 .ensures))
 
 returns : tie.Need-returns Inv-loop μ-loop
 returns c =

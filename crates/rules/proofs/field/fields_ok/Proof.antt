@@ -7,7 +7,7 @@ use Rattle.rules.proofs.field.fields_ok.Tie as tie
 
 returns : tie.Need-returns
 unfolding fields-ok
-returns c = rw (c .before .threads-ok .ensures, c .before .before .mutexes-ok .ensures, c .before .before .before .processors-ok .ensures, c .before .before .before .before .before .first-in .ensures, c .before .before .before .before .before .before .sizes-ok .ensures)
+returns c = rw (c .before .threads-ok .ensures, c .before .before .mutexes-ok .ensures, c .before .before .before .processors-ok .ensures, c .before .before .before .before .before .first-at .ensures, c .before .before .before .before .before .before .sizes-ok .ensures)
 
 pub fields-ok-spec : {M : Type 1} → statement M
 fields-ok-spec =

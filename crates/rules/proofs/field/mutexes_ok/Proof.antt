@@ -30,7 +30,7 @@ loop-again c =
     let r : c .before .before .if1 .x ≡ mutex-in (a .t5) (l .i + 1) =
     ⊎-elim (λ w. w .2) (λ w. w .2 ∙ w .1 .ensures ∙ read-past (a .t5) 9 (l .i + 1) size (w .0 .left) zero-mutex) (c .before .before .if1 .came)
     in
-    (omega arith, each-next _ _ _ _ (l .inv .1) (rw (← r, ← c .before .first-in .ensures) (c .mutex-ok .ensures)))
+    (omega arith, each-next _ _ _ _ (l .inv .1) (rw (← r, ← c .before .first-at .ensures) (c .mutex-ok .ensures)))
 
 returns : tie.Need-returns Inv-loop μ-loop
 returns c = each-end _ 1 _ _ _ (c .before .loop .inv .1) (omega arith)

@@ -19,7 +19,7 @@ returns-3 c = rw (c .before .before .if1 .taken, lt-leb _ _ (c .before .if2 .lef
 
 returns-4 : tie.Need-returns-4
 unfolding first-thread
-returns-4 c = rw (c .if1 .left)
+returns-4 c = rw (c .before .if1 .left, c .zero .ensures)
 
 pub first-thread-spec : {M : Type 1} → statement M
-first-thread-spec = tie.close (tie.spec returns (λ c. search needs) returns-2 returns-3 returns-4)
+first-thread-spec = tie.close (tie.spec returns (λ c. search needs) returns-2 returns-3 (λ c κs. search needs) returns-4)

@@ -17,7 +17,7 @@ abbrev μ-loop : tie.MeasureT-loop
 μ-loop p b threads₀ k₀ threads k = 33 - k
 
 loop-holds : tie.Need-loop-holds Inv-loop μ-loop
-loop-holds c = (omega arith, search needs, fill-none (first-thread (c .args .p) (c .args .b)))
+loop-holds c = (omega arith, search needs, fill-none (first-thread (c .before .args .p) (c .before .args .b)))
 
 loop-again : tie.Need-loop-again Inv-loop μ-loop
 loop-again c =
@@ -36,6 +36,7 @@ first-threads-spec =
     (tie.spec
     Inv-loop
     μ-loop
+    (λ c κs. search needs)
     loop-holds
     (λ c. search needs)
     (λ c κs. search needs)

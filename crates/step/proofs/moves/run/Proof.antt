@@ -2,22 +2,22 @@
 -- Assumes nothing.
 use Prim.Native.Nat.{ℕ, _+_, _≤_, _<_, _-_, _*_, _/_}
 use mathlib.Core.Logic.{_⊎_, inl, inr}
-use mathlib.Core.Path.{_≡_, refl, sym, ap, _∙_}
-use native.Mathlib.Omega.{arith}
-use borrow.Author.Needs.{needs}
-use lib.ListN.{length, getD, set}
 use mathlib.Core.List.{List}
+use mathlib.Core.Path.{_≡_, refl, ap, _∙_}
+use native.Mathlib.Omega.{arith}
+use lib.ListN.{length, getD, set}
+use borrow.Author.Needs.{needs}
 use Rattle.reference.specs.Lists.{tabulate}
 use Rattle.state.specs.declared.Thread.{Thread}
 use Rattle.state.specs.declared.Processor.{Processor}
 use Rattle.state.specs.declared.Mutex.{Mutex}
 use Rattle.state.specs.declared.State.{State}
+use Rattle.state.specs.Record.{zero-processor, zero-mutex, processor-in, mutex-in}
 use Rattle.state.specs.Model.{thread-from, bytes-of}
 use Rattle.state.proofs.Bytes.{threads-back}
-use Rattle.step.specs.Model.{gathered-of, ran, seen-of, refusal-seen}
-use Rattle.state.specs.Record.{zero-processor, zero-mutex, processor-in, mutex-in}
 use Rattle.state.proofs.Past.{read-past, write-past}
 use Rattle.state.proofs.Sized.{sized}
+use Rattle.step.specs.Model.{gathered-of, ran, seen-of, refusal-seen}
 use Rattle.step.proofs.InPlace.{Running, running-start, running-stop, running-more, running-end, bytes-size, sizes-of}
 use Rattle.step.proofs.moves.run.Statement.{statement}
 use Rattle.step.proofs.moves.run.Tie as tie
@@ -29,6 +29,7 @@ Inv-loop moves s₀ firsts₀ bytes₀ processors₀ mutexes₀ nobody n made₀
 abbrev μ-loop : tie.MeasureT-loop
 μ-loop moves s₀ firsts₀ bytes₀ processors₀ mutexes₀ nobody n made₀ s firsts bytes processors mutexes made = n - made
 
+-- a fact on both ways that meet
 either : {A B C : Type 0} → (A → C) → (B → C) → A ⊎ B → C
 either f g (inl a) = f a
 either f g (inr b) = g b
@@ -42,71 +43,91 @@ back s f b ps xs ts e n =
 loop-holds : tie.Need-loop-holds Inv-loop μ-loop
 loop-holds c =
     let t = c .before .before .before .before .before .before .before .before in
-    (omega arith, refl, running-start (t .args .start) (t .args .moves .now) (c .before .before .before .bytes-of .result) (sized (t .good .0)) (c .before .before .before .bytes-of .ensures))
+    let b = c .before .before .before .bytes-of in
+    (omega arith, refl, running-start (t .args .start) (t .args .moves .now) (b .result) (sized (t .good .0)) (b .ensures))
 
 returns : tie.Need-returns Inv-loop μ-loop
 returns c =
-    let k = c .before .before .before .before in
-    let l = k .before .before .before .before .before .before .before .before .before .before .before .before .before .before .before .before .loop in
-    let t = k .before .before .before .before .before .before .before .before .before .before .before .before .before .before .before .before .before .before .before .before .before .before .before .before .before in
+    let cause = c .before .before .before .before in
+    let look = cause .before .before .before .before in
+    let second = look .before .before .before .before .before in
+    let target = second .before in
+    let first = target .before in
+    let test = first .before .before .before .before in
+    let zero = test .before .before in
+    let t = zero .before .before .before .before .before .before .before .before in
+    let l = test .before .loop in
     let g = l .inv .2 in
     let j = t .args .moves .now in
-    let h : l .made < length j / 3 = omega (arith, k .before .before .before .before .before .before .before .before .before .before .before .before .before .before .before .loop-test .taken, l .inv .1) in
-    let r : k .before .before .before .before .before .before .before .before .before .before .before .if1 .r ≡ processor-in (l .processors) (getD j (3 * l .made) 0) =
-    either (λ w. w .2) (λ w. w .1 ∙ k .before .before .before .before .before .before .before .before .before .before .before .before .before .before .before .before .before .zero .ensures ∙ read-past (l .processors) 9 (getD j (3 * l .made) 0) (g .processors-size) (w .0 .left) zero-processor)
-    (k .before .before .before .before .before .before .before .before .before .before .before .if1 .came)
+    let p = getD j (3 * l .made) 0 in
+    let a = getD j (3 * l .made + 1) 0 in
+    let o = getD j (3 * l .made + 2) 0 in
+    let m = target .target .result in
+    let h : l .made < length j / 3 = omega (arith, test .loop-test .taken, l .inv .1) in
+    let r : first .if1 .r ≡ processor-in (l .processors) p =
+    either (λ w. w .2) (λ w. w .1 ∙ zero .zero .ensures ∙ read-past (l .processors) 9 p (g .processors-size) (w .0 .left) zero-processor) (first .if1 .came)
     in
-    let x : k .before .before .before .before .before .before .before .before .before .if2 .x ≡ mutex-in (l .mutexes) (k .before .before .before .before .before .before .before .before .before .before .target .result) =
-    either (λ w. w .2) (λ w. w .2 ∙ w .1 .ensures ∙ read-past (l .mutexes) 9 (k .before .before .before .before .before .before .before .before .before .before .target .result) (g .mutexes-size) (w .0 .left) zero-mutex)
-    (k .before .before .before .before .before .before .before .before .before .if2 .came)
+    let x : second .if2 .x ≡ mutex-in (l .mutexes) m =
+    either (λ w. w .2) (λ w. w .2 ∙ w .1 .ensures ∙ read-past (l .mutexes) 9 m (g .mutexes-size) (w .0 .left) zero-mutex) (second .if2 .came)
     in
-    let v : k .before .before .before .before .look .result ≡ seen-of (l .firsts) (l .bytes) (getD j (3 * l .made) 0) (k .before .before .before .before .before .before .before .before .before .before .before .if1 .r) (k .before .before .before .before .before .before .before .before .before .before .target .result) (k .before .before .before .before .before .before .before .before .before .if2 .x) =
-    k .before .before .before .before .look .ensures ∙ rw (k .before .before .before .before .before .before .by-fields .ensures, k .before .before .before .before .before .mutex-by-fields .ensures)
+    let v : look .look .result ≡ seen-of (l .firsts) (l .bytes) p (first .if1 .r) m (second .if2 .x) =
+    look .look .ensures ∙ rw (look .before .before .by-fields .ensures, look .before .mutex-by-fields .ensures)
     in
-    let q : k .cause .result ≡ refusal-seen (sizes-of (l .s)) (k .before .before .before .before .look .result) (getD (l .bytes) (3 * getD j (3 * l .made + 2) 0) 0) (getD j (3 * l .made + 1) 0) (getD j (3 * l .made + 2) 0) =
-    k .cause .ensures ∙ rw (k .before .before .before .sizes .ensures, k .before .status-in .ensures)
+    let q : cause .cause .result ≡ refusal-seen (sizes-of (l .s)) (look .look .result) (getD (l .bytes) (3 * o) 0) a o =
+    cause .cause .ensures ∙ rw (cause .before .before .before .sizes .ensures, cause .before .status-in .ensures)
     in
     c .stopped .ensures ∙
-    ap (ran (k .cause .result) (l .made)) (c .before .gathered .ensures ∙ back (l .s) (l .firsts) (l .bytes) (l .processors) (l .mutexes) (g .threads) (g .bytes) (g .threads-size)) ∙
-    running-stop (t .args .start) j (l .made) (l .s) (l .firsts) (l .bytes) (l .processors) (l .mutexes) g h (k .before .before .before .before .before .before .before .before .before .before .before .if1 .r) (k .before .before .before .before .before .before .before .before .before .before .target .result) (k .before .before .before .before .before .before .before .before .before .if2 .x) (k .before .before .before .before .look .result) r (k .before .before .before .before .before .before .before .before .before .before .target .ensures) x v (k .cause .result) q (c .before .before .before .if3 .taken)
+    ap (ran (cause .cause .result) (l .made))
+    (c .before .gathered .ensures ∙ back (l .s) (l .firsts) (l .bytes) (l .processors) (l .mutexes) (g .threads) (g .bytes) (g .threads-size)) ∙
+    running-stop (t .args .start) j (l .made) (l .s) (l .firsts) (l .bytes) (l .processors) (l .mutexes) g h
+    (first .if1 .r) m (second .if2 .x) (look .look .result) r (target .target .ensures) x v (cause .cause .result) q (c .before .before .before .if3 .taken)
 
 loop-again : tie.Need-loop-again Inv-loop μ-loop
 loop-again c =
-    let k = c .before .before .before .before .before .before .before .before .before .before in
-    let l = k .before .before .before .before .before .before .before .before .before .before .before .before .before .before .before .before .loop in
-    let t = k .before .before .before .before .before .before .before .before .before .before .before .before .before .before .before .before .before .before .before .before .before .before .before .before .before in
+    let cause = c .before .before .before .before .before .before .before .before .before .before in
+    let look = cause .before .before .before .before in
+    let second = look .before .before .before .before .before in
+    let target = second .before in
+    let first = target .before in
+    let test = first .before .before .before .before in
+    let zero = test .before .before in
+    let t = zero .before .before .before .before .before .before .before .before in
+    let l = test .before .loop in
     let g = l .inv .2 in
     let j = t .args .moves .now in
-    let h : l .made < length j / 3 = omega (arith, k .before .before .before .before .before .before .before .before .before .before .before .before .before .before .before .loop-test .taken, l .inv .1) in
-    let r : k .before .before .before .before .before .before .before .before .before .before .before .if1 .r ≡ processor-in (l .processors) (getD j (3 * l .made) 0) =
-    either (λ w. w .2) (λ w. w .1 ∙ k .before .before .before .before .before .before .before .before .before .before .before .before .before .before .before .before .before .zero .ensures ∙ read-past (l .processors) 9 (getD j (3 * l .made) 0) (g .processors-size) (w .0 .left) zero-processor)
-    (k .before .before .before .before .before .before .before .before .before .before .before .if1 .came)
+    let p = getD j (3 * l .made) 0 in
+    let a = getD j (3 * l .made + 1) 0 in
+    let o = getD j (3 * l .made + 2) 0 in
+    let m = target .target .result in
+    let h : l .made < length j / 3 = omega (arith, test .loop-test .taken, l .inv .1) in
+    let r : first .if1 .r ≡ processor-in (l .processors) p =
+    either (λ w. w .2) (λ w. w .1 ∙ zero .zero .ensures ∙ read-past (l .processors) 9 p (g .processors-size) (w .0 .left) zero-processor) (first .if1 .came)
     in
-    let x : k .before .before .before .before .before .before .before .before .before .if2 .x ≡ mutex-in (l .mutexes) (k .before .before .before .before .before .before .before .before .before .before .target .result) =
-    either (λ w. w .2) (λ w. w .2 ∙ w .1 .ensures ∙ read-past (l .mutexes) 9 (k .before .before .before .before .before .before .before .before .before .before .target .result) (g .mutexes-size) (w .0 .left) zero-mutex)
-    (k .before .before .before .before .before .before .before .before .before .if2 .came)
+    let x : second .if2 .x ≡ mutex-in (l .mutexes) m =
+    either (λ w. w .2) (λ w. w .2 ∙ w .1 .ensures ∙ read-past (l .mutexes) 9 m (g .mutexes-size) (w .0 .left) zero-mutex) (second .if2 .came)
     in
-    let v : k .before .before .before .before .look .result ≡ seen-of (l .firsts) (l .bytes) (getD j (3 * l .made) 0) (k .before .before .before .before .before .before .before .before .before .before .before .if1 .r) (k .before .before .before .before .before .before .before .before .before .before .target .result) (k .before .before .before .before .before .before .before .before .before .if2 .x) =
-    k .before .before .before .before .look .ensures ∙ rw (k .before .before .before .before .before .before .by-fields .ensures, k .before .before .before .before .before .mutex-by-fields .ensures)
+    let v : look .look .result ≡ seen-of (l .firsts) (l .bytes) p (first .if1 .r) m (second .if2 .x) =
+    look .look .ensures ∙ rw (look .before .before .by-fields .ensures, look .before .mutex-by-fields .ensures)
     in
-    let q : k .cause .result ≡ refusal-seen (sizes-of (l .s)) (k .before .before .before .before .look .result) (getD (l .bytes) (3 * getD j (3 * l .made + 2) 0) 0) (getD j (3 * l .made + 1) 0) (getD j (3 * l .made + 2) 0) =
-    k .cause .ensures ∙ rw (k .before .before .before .sizes .ensures, k .before .status-in .ensures)
+    let q : cause .cause .result ≡ refusal-seen (sizes-of (l .s)) (look .look .result) (getD (l .bytes) (3 * o) 0) a o =
+    cause .cause .ensures ∙ rw (cause .before .before .before .sizes .ensures, cause .before .status-in .ensures)
     in
     let e = c .before .before .before .before .before .before .before .before .act in
     let carried = c .before .before .before .before .before .carry in
-    let xs : c .before .before .if4 .mutexes ≡ set (l .mutexes) (k .before .before .before .before .before .before .before .before .before .before .target .result) (e .result .mutex) =
-    either (λ w. w .2 ∙ ap (set (l .mutexes) (k .before .before .before .before .before .before .before .before .before .before .target .result)) (w .1 .ensures))
-    (λ w. w .1 ∙ write-past (l .mutexes) 9 (k .before .before .before .before .before .before .before .before .before .before .target .result) (g .mutexes-size) (w .0 .left) (e .result .mutex)) (c .before .before .if4 .came)
+    let xs : c .before .before .if4 .mutexes ≡ set (l .mutexes) m (e .result .mutex) =
+    either (λ w. w .2 ∙ ap (set (l .mutexes) m) (w .1 .ensures))
+    (λ w. w .1 ∙ write-past (l .mutexes) 9 m (g .mutexes-size) (w .0 .left) (e .result .mutex)) (c .before .before .if4 .came)
     in
-    let ps : c .before .if5 .processors ≡ set (l .processors) (getD j (3 * l .made) 0) (e .result .proc) =
-    either (λ w. w .2 ∙ ap (set (l .processors) (getD j (3 * l .made) 0)) (w .1 .ensures))
-    (λ w. w .1 ∙ write-past (l .processors) 9 (getD j (3 * l .made) 0) (g .processors-size) (w .0 .left) (e .result .proc)) (c .before .if5 .came)
+    let ps : c .before .if5 .processors ≡ set (l .processors) p (e .result .proc) =
+    either (λ w. w .2 ∙ ap (set (l .processors) p) (w .1 .ensures))
+    (λ w. w .1 ∙ write-past (l .processors) 9 p (g .processors-size) (w .0 .left) (e .result .proc)) (c .before .if5 .came)
     in (
-      omega (arith, k .before .before .before .before .before .before .before .before .before .before .before .before .before .before .before .loop-test .taken),
+      omega (arith, test .loop-test .taken),
       l .inv .1,
-      running-more (t .args .start) j (l .made) (l .s) (l .firsts) (l .bytes) (l .processors) (l .mutexes) g h (k .before .before .before .before .before .before .before .before .before .before .before .if1 .r) (k .before .before .before .before .before .before .before .before .before .before .target .result) (k .before .before .before .before .before .before .before .before .before .if2 .x)
-          (k .before .before .before .before .look .result) r (k .before .before .before .before .before .before .before .before .before .before .target .ensures) x v (k .cause .result) q (c .before .before .before .before .before .before .before .before .before .if3 .left) (e .result) (e .ensures) _ (carried .last .0)
-          (carried .last .1 .0) (c .before .if5 .processors) (c .before .before .if4 .mutexes) (rw (c .up-wide .ensures)) (carried .ensures .0) (carried .ensures .1) ps xs,
+      running-more (t .args .start) j (l .made) (l .s) (l .firsts) (l .bytes) (l .processors) (l .mutexes) g h
+          (first .if1 .r) m (second .if2 .x) (look .look .result) r (target .target .ensures) x v (cause .cause .result) q
+          (c .before .before .before .before .before .before .before .before .before .if3 .left) (e .result) (e .ensures) _ (carried .last .0) (carried .last .1 .0)
+          (c .before .if5 .processors) (c .before .before .if4 .mutexes) (rw (c .up-wide .ensures)) (carried .ensures .0) (carried .ensures .1) ps xs,
     )
 
 returns-2 : tie.Need-returns-2 Inv-loop μ-loop
@@ -115,7 +136,8 @@ returns-2 c =
     let l = c .before .before .before .before .loop in
     let g = l .inv .2 in
     c .stopped2 .ensures ∙
-    ap (ran 0 (l .made)) (c .before .gathered2 .ensures ∙ back (l .s) (l .firsts) (l .bytes) (l .processors) (l .mutexes) (g .threads) (g .bytes) (g .threads-size)) ∙
+    ap (ran 0 (l .made))
+    (c .before .gathered2 .ensures ∙ back (l .s) (l .firsts) (l .bytes) (l .processors) (l .mutexes) (g .threads) (g .bytes) (g .threads-size)) ∙
     running-end (t .args .start) (t .args .moves .now) (l .made) (l .s) (l .firsts) (l .bytes) (l .processors) (l .mutexes) g (omega arith)
 
 pub run-spec : {M : Type 1} → statement M
