@@ -98,11 +98,12 @@ pub fn join(firsts: &mut [u8], threads: &mut [u8], q: u8, k: u8)
     ensures threads { λ r. ⌜ now (threads .exit) ≡ joined-threads (now (firsts .entry)) (now (threads .entry)) q k ⌝ }
 {
     let front = get(firsts, q as usize);
-    let end = last_in(threads, front);
-    put_thread(threads, k, queued_in(q));
     if front == 0 {
+        put_thread(threads, k, queued_in(q));
         put(firsts, q as usize, k);
     } else {
+        let end = last_in(threads, front);
+        put_thread(threads, k, queued_in(q));
         put(threads, 3 * (end as usize) + 2, k);
     }
 }

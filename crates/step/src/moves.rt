@@ -95,39 +95,34 @@ pub(crate) fn carry(firsts: &mut [u8], threads: &mut [u8], p: u8, transfer: Tran
     }
 }
 
-// The record with all that moves change but the count of those applied.
-fn gathered(
+// The run's end: the record has all its parts again.
+fn ended(
+    refusal: u8,
+    made: usize,
     mut s: State,
     firsts: [u8; 9],
     bytes: &[u8],
     processors: [Processor; 9],
     mutexes: [Mutex; 9],
-) -> State
-    ensures { λ r. ⌜ r ≡ gathered-of s firsts (tabulate (thread-from (now (bytes .entry))) 0 33) processors mutexes (s .applied) ⌝ }
+) -> Run
+    ensures { λ r. ⌜ r ≡ ran refusal made (gathered-of s firsts (tabulate (thread-from (now (bytes .entry))) 0 33) processors mutexes (s .applied)) ⌝ }
 {
     let threads = threads_of(bytes);
     let chains = Chains { firsts, threads };
     s.chains = chains;
     s.processors = processors;
     s.mutexes = mutexes;
-    s
-}
-
-fn stopped(refusal: u8, made: usize, state: State) -> Run
-    ensures { λ r. ⌜ r ≡ ran refusal made state ⌝ }
-{
     Run {
         refusal,
         made,
-        state,
+        state: s,
     }
 }
 
 // Makes moves, three bytes each, in order on one record that is changed in place, until one is refused. Bytes left over are no move.
-pub fn run(start: State, moves: &[u8]) -> Run
-    ensures { λ r. ⌜ r ≡ run-of start (now (moves .entry)) ⌝ }
+pub fn run(mut s: State, moves: &[u8]) -> Run
+    ensures { λ r. ⌜ r ≡ run-of s (now (moves .entry)) ⌝ }
 {
-    let mut s = start;
     let chains = s.chains;
     let threads = chains.threads;
     let mut firsts = chains.firsts;
@@ -135,6 +130,7 @@ pub fn run(start: State, moves: &[u8]) -> Run
     let mut processors = s.processors;
     let mut mutexes = s.mutexes;
     let nobody = Processor::zero();
+    let free = Mutex::zero();
     let n = moves.len() / 3;
     let mut made: usize = 0;
     while made < n {
@@ -143,16 +139,15 @@ pub fn run(start: State, moves: &[u8]) -> Run
         let action = moves[at + 1];
         let operand = moves[at + 2];
         let i = p as usize;
-        let r = if i < 9 { processors[i] } else { nobody };
+        let r = by_fields(if i < 9 { processors[i] } else { nobody });
         let m = target(action, r.mutex, operand);
         let j = m as usize;
-        let x = if j < 9 { mutexes[j] } else { Mutex::zero() };
-        let v = look(&firsts, &bytes, p, by_fields(r), m, mutex_by_fields(x));
+        let x = mutex_by_fields(if j < 9 { mutexes[j] } else { free });
+        let v = look(&firsts, &bytes, p, r, m, x);
         let z = sizes(s.p, s.t, s.m, s.applied);
         let refusal = cause(z, v, status_in(&bytes, operand), action, operand);
         if refusal != 0 {
-            let state = gathered(s, firsts, &bytes, processors, mutexes);
-            return stopped(refusal, made, state);
+            return ended(refusal, made, s, firsts, &bytes, processors, mutexes);
         }
         let e = act(action, operand, v);
         let transfer = e.transfer;
@@ -166,8 +161,7 @@ pub fn run(start: State, moves: &[u8]) -> Run
         s.applied = up_wide(s.applied);
         made += 1;
     }
-    let state = gathered(s, firsts, &bytes, processors, mutexes);
-    stopped(0, made, state)
+    ended(0, made, s, firsts, &bytes, processors, mutexes)
 }
 
 // One move: refused, the state stays.

@@ -8,11 +8,11 @@ use Rattle.state.proofs.queues.join.Tie as tie
 
 returns : tie.Need-returns
 returns c =
-    let thread = c .before .before .before .before .before .before .before in
-    let front = thread .before .before .before .before .before .get in
+    let thread = c .before .before .before .before .before .before in
+    let test = thread .before .before .before in
     rw (
-      ← front .ensures,
-      eq-eqb _ _ (c .before .before .before .before .if1 .taken),
+      ← test .before .get .ensures,
+      eq-eqb _ _ (test .if1 .taken),
       c .before .before .put .ensures,
       thread .put-thread .ensures,
       thread .before .queued-in .ensures,
@@ -21,15 +21,16 @@ returns c =
 
 returns-2 : tie.Need-returns-2
 returns-2 c =
-    let thread = c .before .before .before .before .before .before .before in
-    let front = thread .before .before .before .before .before .get in
+    let thread = c .before .before .before .before .before .before in
+    let last = thread .before .before .before in
+    let test = last .before .before in
     rw (
-      ← front .ensures,
-      ne-eqb _ _ (c .before .before .before .before .if1 .left),
+      ← test .before .get .ensures,
+      ne-eqb _ _ (test .if1 .left),
       c .before .before .put2 .ensures,
-      thread .put-thread .ensures,
-      thread .before .queued-in .ensures,
-      thread .before .before .before .last-in .ensures,
+      thread .put-thread2 .ensures,
+      thread .before .queued-in2 .ensures,
+      last .last-in .ensures,
     )
     (refl, refl)
 
@@ -37,6 +38,8 @@ pub join-spec : {M : Type 1} → statement M
 join-spec =
     tie.close
     (tie.spec
+    (λ c κs. search needs)
+    (λ c κs. search needs)
     (λ c κs. search needs)
     (λ c κs. search needs)
     (λ c κs. search needs)

@@ -17,17 +17,17 @@ use Rattle.state.specs.Model.{thread-from, bytes-of}
 use Rattle.state.proofs.Bytes.{threads-back}
 use Rattle.state.proofs.Past.{read-past, write-past}
 use Rattle.state.proofs.Sized.{sized}
-use Rattle.step.specs.Model.{gathered-of, ran, seen-of, refusal-seen}
+use Rattle.step.specs.Model.{gathered-of, ran, refusal-seen}
 use Rattle.step.proofs.InPlace.{Running, running-start, running-stop, running-more, running-end, bytes-size, sizes-of}
 use Rattle.step.proofs.moves.run.Statement.{statement}
 use Rattle.step.proofs.moves.run.Tie as tie
 
 abbrev Inv-loop : tie.InvT-loop
-Inv-loop moves s₀ firsts₀ bytes₀ processors₀ mutexes₀ nobody n made₀ s firsts bytes processors mutexes made =
+Inv-loop s₀ moves firsts₀ bytes₀ processors₀ mutexes₀ nobody free n made₀ s firsts bytes processors mutexes made =
     (made ≤ n) × (n ≡ length moves / 3) × Running s₀ moves made s firsts bytes processors mutexes
 
 abbrev μ-loop : tie.MeasureT-loop
-μ-loop moves s₀ firsts₀ bytes₀ processors₀ mutexes₀ nobody n made₀ s firsts bytes processors mutexes made = n - made
+μ-loop s₀ moves firsts₀ bytes₀ processors₀ mutexes₀ nobody free n made₀ s firsts bytes processors mutexes made = n - made
 
 -- a fact on both ways that meet
 either : {A B C : Type 0} → (A → C) → (B → C) → A ⊎ B → C
@@ -42,20 +42,20 @@ back s f b ps xs ts e n =
 
 loop-holds : tie.Need-loop-holds Inv-loop μ-loop
 loop-holds c =
-    let t = c .before .before .before .before .before .before .before .before in
-    let b = c .before .before .before .bytes-of in
-    (omega arith, refl, running-start (t .args .start) (t .args .moves .now) (b .result) (sized (t .good .0)) (b .ensures))
+    let t = c .before .before .before .before .before .before .before .before .before in
+    let b = c .before .before .before .before .bytes-of in
+    (omega arith, refl, running-start (t .args .s) (t .args .moves .now) (b .result) (sized (t .good .0)) (b .ensures))
 
 returns : tie.Need-returns Inv-loop μ-loop
 returns c =
-    let cause = c .before .before .before .before in
+    let cause = c .before .before .before in
     let look = cause .before .before .before .before in
-    let second = look .before .before .before .before .before in
-    let target = second .before in
-    let first = target .before in
-    let test = first .before .before .before .before in
+    let mutex = look .before .before .before in
+    let target = mutex .before .before in
+    let proc = target .before in
+    let test = proc .before .before .before .before .before in
     let zero = test .before .before in
-    let t = zero .before .before .before .before .before .before .before .before in
+    let t = zero .before .before .before .before .before .before .before .before .before in
     let l = test .before .loop in
     let g = l .inv .2 in
     let j = t .args .moves .now in
@@ -64,34 +64,34 @@ returns c =
     let o = getD j (3 * l .made + 2) 0 in
     let m = target .target .result in
     let h : l .made < length j / 3 = omega (arith, test .loop-test .taken, l .inv .1) in
-    let r : first .if1 .r ≡ processor-in (l .processors) p =
-    either (λ w. w .2) (λ w. w .1 ∙ zero .zero .ensures ∙ read-past (l .processors) 9 p (g .processors-size) (w .0 .left) zero-processor) (first .if1 .came)
+    let r : proc .by-fields .result ≡ processor-in (l .processors) p =
+    proc .by-fields .ensures ∙
+    either (λ w. w .2) (λ w. w .1 ∙ zero .before .zero .ensures ∙ read-past (l .processors) 9 p (g .processors-size) (w .0 .left) zero-processor)
+    (proc .before .if1 .came)
     in
-    let x : second .if2 .x ≡ mutex-in (l .mutexes) m =
-    either (λ w. w .2) (λ w. w .2 ∙ w .1 .ensures ∙ read-past (l .mutexes) 9 m (g .mutexes-size) (w .0 .left) zero-mutex) (second .if2 .came)
-    in
-    let v : look .look .result ≡ seen-of (l .firsts) (l .bytes) p (first .if1 .r) m (second .if2 .x) =
-    look .look .ensures ∙ rw (look .before .before .by-fields .ensures, look .before .mutex-by-fields .ensures)
+    let x : mutex .mutex-by-fields .result ≡ mutex-in (l .mutexes) m =
+    mutex .mutex-by-fields .ensures ∙
+    either (λ w. w .2) (λ w. w .1 ∙ zero .zero2 .ensures ∙ read-past (l .mutexes) 9 m (g .mutexes-size) (w .0 .left) zero-mutex)
+    (mutex .before .if2 .came)
     in
     let q : cause .cause .result ≡ refusal-seen (sizes-of (l .s)) (look .look .result) (getD (l .bytes) (3 * o) 0) a o =
     cause .cause .ensures ∙ rw (cause .before .before .before .sizes .ensures, cause .before .status-in .ensures)
     in
-    c .stopped .ensures ∙
-    ap (ran (cause .cause .result) (l .made))
-    (c .before .gathered .ensures ∙ back (l .s) (l .firsts) (l .bytes) (l .processors) (l .mutexes) (g .threads) (g .bytes) (g .threads-size)) ∙
-    running-stop (t .args .start) j (l .made) (l .s) (l .firsts) (l .bytes) (l .processors) (l .mutexes) g h
-    (first .if1 .r) m (second .if2 .x) (look .look .result) r (target .target .ensures) x v (cause .cause .result) q (c .before .before .before .if3 .taken)
+    c .ended .ensures ∙
+    ap (ran (cause .cause .result) (l .made)) (back (l .s) (l .firsts) (l .bytes) (l .processors) (l .mutexes) (g .threads) (g .bytes) (g .threads-size)) ∙
+    running-stop (t .args .s) j (l .made) (l .s) (l .firsts) (l .bytes) (l .processors) (l .mutexes) g h
+    (proc .by-fields .result) m (mutex .mutex-by-fields .result) (look .look .result) r (target .target .ensures) x (look .look .ensures) (cause .cause .result) q (c .before .before .if3 .taken)
 
 loop-again : tie.Need-loop-again Inv-loop μ-loop
 loop-again c =
     let cause = c .before .before .before .before .before .before .before .before .before .before in
     let look = cause .before .before .before .before in
-    let second = look .before .before .before .before .before in
-    let target = second .before in
-    let first = target .before in
-    let test = first .before .before .before .before in
+    let mutex = look .before .before .before in
+    let target = mutex .before .before in
+    let proc = target .before in
+    let test = proc .before .before .before .before .before in
     let zero = test .before .before in
-    let t = zero .before .before .before .before .before .before .before .before in
+    let t = zero .before .before .before .before .before .before .before .before .before in
     let l = test .before .loop in
     let g = l .inv .2 in
     let j = t .args .moves .now in
@@ -100,14 +100,15 @@ loop-again c =
     let o = getD j (3 * l .made + 2) 0 in
     let m = target .target .result in
     let h : l .made < length j / 3 = omega (arith, test .loop-test .taken, l .inv .1) in
-    let r : first .if1 .r ≡ processor-in (l .processors) p =
-    either (λ w. w .2) (λ w. w .1 ∙ zero .zero .ensures ∙ read-past (l .processors) 9 p (g .processors-size) (w .0 .left) zero-processor) (first .if1 .came)
+    let r : proc .by-fields .result ≡ processor-in (l .processors) p =
+    proc .by-fields .ensures ∙
+    either (λ w. w .2) (λ w. w .1 ∙ zero .before .zero .ensures ∙ read-past (l .processors) 9 p (g .processors-size) (w .0 .left) zero-processor)
+    (proc .before .if1 .came)
     in
-    let x : second .if2 .x ≡ mutex-in (l .mutexes) m =
-    either (λ w. w .2) (λ w. w .2 ∙ w .1 .ensures ∙ read-past (l .mutexes) 9 m (g .mutexes-size) (w .0 .left) zero-mutex) (second .if2 .came)
-    in
-    let v : look .look .result ≡ seen-of (l .firsts) (l .bytes) p (first .if1 .r) m (second .if2 .x) =
-    look .look .ensures ∙ rw (look .before .before .by-fields .ensures, look .before .mutex-by-fields .ensures)
+    let x : mutex .mutex-by-fields .result ≡ mutex-in (l .mutexes) m =
+    mutex .mutex-by-fields .ensures ∙
+    either (λ w. w .2) (λ w. w .1 ∙ zero .zero2 .ensures ∙ read-past (l .mutexes) 9 m (g .mutexes-size) (w .0 .left) zero-mutex)
+    (mutex .before .if2 .came)
     in
     let q : cause .cause .result ≡ refusal-seen (sizes-of (l .s)) (look .look .result) (getD (l .bytes) (3 * o) 0) a o =
     cause .cause .ensures ∙ rw (cause .before .before .before .sizes .ensures, cause .before .status-in .ensures)
@@ -115,17 +116,17 @@ loop-again c =
     let e = c .before .before .before .before .before .before .before .before .act in
     let carried = c .before .before .before .before .before .carry in
     let xs : c .before .before .if4 .mutexes ≡ set (l .mutexes) m (e .result .mutex) =
-    either (λ w. w .2 ∙ ap (set (l .mutexes) m) (w .1 .ensures))
+    either (λ w. w .3 ∙ ap (set (l .mutexes) m) (w .2 .ensures))
     (λ w. w .1 ∙ write-past (l .mutexes) 9 m (g .mutexes-size) (w .0 .left) (e .result .mutex)) (c .before .before .if4 .came)
     in
     let ps : c .before .if5 .processors ≡ set (l .processors) p (e .result .proc) =
-    either (λ w. w .2 ∙ ap (set (l .processors) p) (w .1 .ensures))
+    either (λ w. w .3 ∙ ap (set (l .processors) p) (w .2 .ensures))
     (λ w. w .1 ∙ write-past (l .processors) 9 p (g .processors-size) (w .0 .left) (e .result .proc)) (c .before .if5 .came)
     in (
       omega (arith, test .loop-test .taken),
       l .inv .1,
-      running-more (t .args .start) j (l .made) (l .s) (l .firsts) (l .bytes) (l .processors) (l .mutexes) g h
-          (first .if1 .r) m (second .if2 .x) (look .look .result) r (target .target .ensures) x v (cause .cause .result) q
+      running-more (t .args .s) j (l .made) (l .s) (l .firsts) (l .bytes) (l .processors) (l .mutexes) g h
+          (proc .by-fields .result) m (mutex .mutex-by-fields .result) (look .look .result) r (target .target .ensures) x (look .look .ensures) (cause .cause .result) q
           (c .before .before .before .before .before .before .before .before .before .if3 .left) (e .result) (e .ensures) _ (carried .last .0) (carried .last .1 .0)
           (c .before .if5 .processors) (c .before .before .if4 .mutexes) (rw (c .up-wide .ensures)) (carried .ensures .0) (carried .ensures .1) ps xs,
     )
@@ -133,12 +134,11 @@ loop-again c =
 returns-2 : tie.Need-returns-2 Inv-loop μ-loop
 returns-2 c =
     let t = c .before .before .before .before .before .before .before .before .before .before .before .before .before in
-    let l = c .before .before .before .before .loop in
+    let l = c .before .before .before .loop in
     let g = l .inv .2 in
-    c .stopped2 .ensures ∙
-    ap (ran 0 (l .made))
-    (c .before .gathered2 .ensures ∙ back (l .s) (l .firsts) (l .bytes) (l .processors) (l .mutexes) (g .threads) (g .bytes) (g .threads-size)) ∙
-    running-end (t .args .start) (t .args .moves .now) (l .made) (l .s) (l .firsts) (l .bytes) (l .processors) (l .mutexes) g (omega arith)
+    c .ended2 .ensures ∙
+    ap (ran 0 (l .made)) (back (l .s) (l .firsts) (l .bytes) (l .processors) (l .mutexes) (g .threads) (g .bytes) (g .threads-size)) ∙
+    running-end (t .args .s) (t .args .moves .now) (l .made) (l .s) (l .firsts) (l .bytes) (l .processors) (l .mutexes) g (omega arith)
 
 pub run-spec : {M : Type 1} → statement M
 run-spec =
@@ -146,6 +146,7 @@ run-spec =
     (tie.spec
     Inv-loop
     μ-loop
+    (λ c κs. search needs)
     (λ c κs. search needs)
     (λ c κs. search needs)
     loop-holds
@@ -159,26 +160,24 @@ run-spec =
     (λ c. search needs)
     (λ c. search needs)
     (λ c κs. search needs)
+    (λ c κs. search needs)
     (λ c. search needs)
     (λ c. search needs)
     (λ c. search needs)
     (λ c κs. search needs)
-    (λ c. omega (arith, c .before .before .before .before .before .before .before .before .loop .inv .2 .firsts-size))
-    (λ c. let l = c .before .before .before .before .before .before .before .before .before .loop in omega (arith, bytes-size _ _ _ _ _ _ _ _ (l .inv .2)))
+    (λ c. omega (arith, c .before .before .before .before .before .before .before .before .before .before .loop .inv .2 .firsts-size))
+    (λ c. omega (arith, bytes-size _ _ _ _ _ _ _ _ (c .before .before .before .before .before .before .before .before .before .before .before .loop .inv .2)))
     (λ c κs. search needs)
     (λ c κs. search needs)
+    (λ c. omega (arith, bytes-size _ _ _ _ _ _ _ _ (c .before .before .before .before .before .before .before .before .before .before .before .before .before .before .loop .inv .2)))
     (λ c κs. search needs)
     (λ c κs. search needs)
-    (λ c. let l = c .before .before .before .before .before .before .before .before .before .before .before .before .before .before .loop in omega (arith, bytes-size _ _ _ _ _ _ _ _ (l .inv .2)))
-    (λ c κs. search needs)
-    (λ c κs. search needs)
-    (λ c. let l = c .before .before .before .before .before .before .before .before .before .before .before .before .before .before .before .before .before .before .loop in omega (arith, bytes-size _ _ _ _ _ _ _ _ (l .inv .2)))
-    (λ c κs. search needs)
+    (λ c. omega (arith, bytes-size _ _ _ _ _ _ _ _ (c .before .before .before .before .before .before .before .before .before .before .before .before .before .before .before .before .before .before .loop .inv .2)))
     (λ c κs. search needs)
     returns
     (λ c κs. search needs)
     (λ c. omega (arith, c .before .before .before .before .before .before .before .before .before .before .before .before .before .before .before .before .before .before .before .loop .inv .2 .firsts-size))
-    (λ c. let l = c .before .before .before .before .before .before .before .before .before .before .before .before .before .before .before .before .before .before .before .before .loop in omega (arith, bytes-size _ _ _ _ _ _ _ _ (l .inv .2)))
+    (λ c. omega (arith, bytes-size _ _ _ _ _ _ _ _ (c .before .before .before .before .before .before .before .before .before .before .before .before .before .before .before .before .before .before .before .before .loop .inv .2)))
     (λ c κs. search needs)
     (λ c κs. search needs)
     (λ c. search needs)
@@ -187,10 +186,9 @@ run-spec =
     (λ c. search needs)
     (λ c. search needs)
     (λ c κs. search needs)
-    (λ c. let l = c .before .before .before .before .before .before .before .before .before .before .before .before .before .before .before .before .before .before .before .before .before .before .before .before .before in omega (arith, l .loop-test .taken, l .before .loop .inv .1, l .before .before .before .before .before .before .before .before .before .before .good .1 .0))
+    (λ c. let l = c .before .before .before .before .before .before .before .before .before .before .before .before .before .before .before .before .before .before .before .before .before .before .before .before .before in omega (arith, l .loop-test .taken, l .before .loop .inv .1, l .before .before .before .before .before .before .before .before .before .before .before .good .1 .0))
     (λ c. let l = c .before .before .before .before .before .before .before .before .before .before .before .before .before .before .before .before .before .before .before .before .before .before .before .before .before in omega (arith, l .loop-test .taken))
     loop-again
-    (λ c. let l = c .before .before .loop in omega (arith, bytes-size _ _ _ _ _ _ _ _ (l .inv .2)))
-    (λ c κs. search needs)
+    (λ c. omega (arith, bytes-size _ _ _ _ _ _ _ _ (c .before .before .loop .inv .2)))
     (λ c κs. search needs)
     returns-2)
