@@ -299,21 +299,23 @@ moved-of s p a o = record { refusal = refusal-of s p a o; state = choose (eqb (r
 
 -- why a move is refused, by what it sees and by the status of the thread that its operand names
 abbrev pub operand-fits : Sizes → ℕ → ℕ → Bool
-operand-fits z a o = choose (eqb a 0) (eqb o 0) (choose (in-range 1 3 a) (in-range 1 (z .m) o) (choose (eqb a 6) (in-range 1 (z .t) o) (eqb o 0)))
+operand-fits z a o = choose (in-range 1 3 a) (in-range 1 (z .m) o) (choose (eqb a 6) (in-range 1 (z .t) o) (eqb o 0))
 
-unfoldable pub go-refusal : ℕ → View → ℕ
-go-refusal t v = refuse (eqb (v .proc .position) 0) 5 (refuse (breaks-at t v) 15 0)
+unfoldable pub go-refusal : Sizes → View → ℕ → ℕ
+go-refusal z v o =
+    refuse (not (eqb o 0)) 3
+    (refuse (leb 4000 (z .applied)) 8 (refuse (eqb (v .proc .position) 0) 5 (refuse (breaks-at (z .t) v) 15 0)))
 
-unfoldable pub call-refusal : View → ℕ → ℕ → ℕ
-call-refusal v status a =
-    refuse (not (eqb (v .proc .position) 0)) 4
-    (refuse (eqb a 3 && not (eqb (v .mutex .owner) (v .proc .current))) 6 (refuse (eqb a 6 && not (eqb status 0)) 7 0))
+unfoldable pub call-refusal : Sizes → View → ℕ → ℕ → ℕ → ℕ
+call-refusal z v status a o =
+    refuse (not (leb a 6 && operand-fits z a o)) 3
+    (refuse (leb 4000 (z .applied)) 8
+    (refuse (not (eqb (v .proc .position) 0)) 4
+    (refuse (eqb a 3 && not (eqb (v .mutex .owner) (v .proc .current))) 6 (refuse (eqb a 6 && not (eqb status 0)) 7 0))))
 
 unfoldable pub refusal-seen : Sizes → View → ℕ → ℕ → ℕ → ℕ
 refusal-seen z v status a o =
-    refuse (not (in-range 1 (z .p) (v .number))) 2
-    (refuse (not (leb a 6 && operand-fits z a o)) 3
-    (refuse (leb 4000 (z .applied)) 8 (choose (eqb a 0) (go-refusal (z .t) v) (call-refusal v status a))))
+    refuse (not (in-range 1 (z .p) (v .number))) 2 (choose (eqb a 0) (go-refusal z v o) (call-refusal z v status a o))
 
 abbrev pub seen-of : List ℕ → List ℕ → ℕ → Processor → ℕ → Mutex → View
 seen-of f b p r m x =

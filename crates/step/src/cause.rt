@@ -17,9 +17,6 @@ pub(crate) fn in_range(lo: u8, hi: u8, n: u8) -> bool
 pub(crate) fn operand_fits(z: Sizes, action: u8, operand: u8) -> bool
     ensures { λ r. ⌜ r ≡ operand-fits z action operand ⌝ }
 {
-    if action == 0 {
-        return operand == 0;
-    }
     if in_range(1, 3, action) {
         return in_range(1, z.m, operand);
     }
@@ -35,24 +32,37 @@ pub(crate) fn sizes(p: u8, t: u8, m: u8, applied: u16) -> Sizes
     Sizes { p, t, m, applied }
 }
 
-// A go: at App there is no line, and no line may break a rule.
-pub(crate) fn go_refusal(t: u8, v: View) -> u8
-    ensures { λ r. ⌜ r ≡ go-refusal t v ⌝ }
+// A go has operand 0; at App there is no line, and no line may break a rule.
+pub(crate) fn go_refusal(z: Sizes, v: View, operand: u8) -> u8
+    ensures { λ r. ⌜ r ≡ go-refusal z v operand ⌝ }
 {
     let r = v.proc;
+    if operand != 0 {
+        return 3;
+    }
+    if 4000 <= z.applied {
+        return 8;
+    }
     if r.position == Position::APP {
         return 5;
     }
-    let there = breaks(t, v);
+    let there = breaks(z.t, v);
     if there { 15 } else { 0 }
 }
 
-// A call: only at App; unlock only by the owner; create only of a new thread, whose status is 0.
-pub(crate) fn call_refusal(v: View, status: u8, action: u8) -> u8
-    ensures { λ r. ⌜ r ≡ call-refusal v status action ⌝ }
+// A call is made at App only; unlock by the owner; create of a new thread, whose status is 0.
+pub(crate) fn call_refusal(z: Sizes, v: View, status: u8, action: u8, operand: u8) -> u8
+    ensures { λ r. ⌜ r ≡ call-refusal z v status action operand ⌝ }
 {
     let r = v.proc;
     let x = v.mutex;
+    let fits = operand_fits(z, action, operand);
+    if !((action <= 6) & fits) {
+        return 3;
+    }
+    if 4000 <= z.applied {
+        return 8;
+    }
     if r.position != Position::APP {
         return 4;
     }
@@ -73,15 +83,8 @@ pub(crate) fn cause(z: Sizes, v: View, status: u8, action: u8, operand: u8) -> u
     if !there {
         return 2;
     }
-    let fits = operand_fits(z, action, operand);
-    if !((action <= 6) & fits) {
-        return 3;
-    }
-    if 4000 <= z.applied {
-        return 8;
-    }
     if action == 0 {
-        return go_refusal(z.t, v);
+        return go_refusal(z, v, operand);
     }
-    call_refusal(v, status, action)
+    call_refusal(z, v, status, action, operand)
 }

@@ -130,7 +130,7 @@ pub(crate) fn stays(r: Processor, x: Mutex) -> Effect
 {
     Effect {
         proc: r,
-        mutex: x,
+        mutex: mutex_by_fields(x),
         transfer: Transfer::Stay,
     }
 }

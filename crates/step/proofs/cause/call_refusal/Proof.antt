@@ -1,6 +1,6 @@
 -- `step::cause::call_refusal` meets its contract.
 -- Assumes nothing.
-use borrow.Author.Tests.{eq-eqb, ne-eqb}
+use borrow.Author.Tests.{eq-eqb, ne-eqb, le-leb, lt-leb}
 use Rattle.step.specs.Model.{call-refusal}
 use borrow.Author.Needs.{needs}
 use Rattle.step.proofs.cause.call_refusal.Statement.{statement}
@@ -8,25 +8,74 @@ use Rattle.step.proofs.cause.call_refusal.Tie as tie
 
 returns : tie.Need-returns
 unfolding call-refusal
-returns c = rw (ne-eqb _ _ (c .if1 .taken))
+returns c =
+    rw (
+      ← c .before .operand-fits .ensures,
+      c .if1 .taken,
+    )
 
 returns-2 : tie.Need-returns-2
 unfolding call-refusal
-returns-2 c = rw (eq-eqb _ _ (c .before .before .before .if1 .left), c .if2 .taken)
+returns-2 c =
+    rw (
+      ← c .before .before .before .operand-fits .ensures,
+      c .before .before .if1 .left,
+      le-leb _ _ (c .if2 .taken),
+    )
 
 returns-3 : tie.Need-returns-3
 unfolding call-refusal
-returns-3 c = rw (eq-eqb _ _ (c .before .before .before .before .if1 .left), c .before .if2 .left, c .if3 .taken)
+returns-3 c =
+    rw (
+      ← c .before .before .before .before .before .operand-fits .ensures,
+      c .before .before .before .before .if1 .left,
+      lt-leb _ _ (c .before .before .if2 .left),
+      ne-eqb _ _ (c .if3 .taken),
+    )
 
 returns-4 : tie.Need-returns-4
 unfolding call-refusal
-returns-4 c = rw (eq-eqb _ _ (c .before .before .before .before .if1 .left), c .before .if2 .left, c .if3 .left)
+returns-4 c =
+    rw (
+      ← c .before .before .before .before .before .before .before .before .operand-fits .ensures,
+      c .before .before .before .before .before .before .before .if1 .left,
+      lt-leb _ _ (c .before .before .before .before .before .if2 .left),
+      eq-eqb _ _ (c .before .before .before .if3 .left),
+      c .if4 .taken,
+    )
+
+returns-5 : tie.Need-returns-5
+unfolding call-refusal
+returns-5 c =
+    rw (
+      ← c .before .before .before .before .before .before .before .before .before .operand-fits .ensures,
+      c .before .before .before .before .before .before .before .before .if1 .left,
+      lt-leb _ _ (c .before .before .before .before .before .before .if2 .left),
+      eq-eqb _ _ (c .before .before .before .before .if3 .left),
+      c .before .if4 .left,
+      c .if5 .taken,
+    )
+
+returns-6 : tie.Need-returns-6
+unfolding call-refusal
+returns-6 c =
+    rw (
+      ← c .before .before .before .before .before .before .before .before .before .operand-fits .ensures,
+      c .before .before .before .before .before .before .before .before .if1 .left,
+      lt-leb _ _ (c .before .before .before .before .before .before .if2 .left),
+      eq-eqb _ _ (c .before .before .before .before .if3 .left),
+      c .before .if4 .left,
+      c .if5 .left,
+    )
 
 pub call-refusal-spec : {M : Type 1} → statement M
 call-refusal-spec =
     tie.close
     (tie.spec
+    (λ c κs. search needs)
     returns
     returns-2
     returns-3
-    returns-4)
+    returns-4
+    returns-5
+    returns-6)

@@ -1,6 +1,6 @@
 -- `step::cause::go_refusal` meets its contract.
 -- Assumes nothing.
-use borrow.Author.Tests.{eq-eqb, ne-eqb}
+use borrow.Author.Tests.{eq-eqb, ne-eqb, le-leb, lt-leb}
 use Rattle.step.specs.Model.{go-refusal}
 use borrow.Author.Needs.{needs}
 use Rattle.step.proofs.cause.go_refusal.Statement.{statement}
@@ -8,21 +8,54 @@ use Rattle.step.proofs.cause.go_refusal.Tie as tie
 
 returns : tie.Need-returns
 unfolding go-refusal
-returns c = rw (eq-eqb _ _ (c .if1 .taken))
+returns c = rw (ne-eqb _ _ (c .if1 .taken))
 
 returns-2 : tie.Need-returns-2
 unfolding go-refusal
-returns-2 c = rw (ne-eqb _ _ (c .before .before .if1 .left), ← c .before .breaks .ensures, c .if2 .taken)
+returns-2 c =
+    rw (
+      eq-eqb _ _ (c .before .before .if1 .left),
+      le-leb _ _ (c .if2 .taken),
+    )
 
 returns-3 : tie.Need-returns-3
 unfolding go-refusal
-returns-3 c = rw (ne-eqb _ _ (c .before .before .if1 .left), ← c .before .breaks .ensures, c .if2 .left)
+returns-3 c =
+    rw (
+      eq-eqb _ _ (c .before .before .before .before .if1 .left),
+      lt-leb _ _ (c .before .before .if2 .left),
+      eq-eqb _ _ (c .if3 .taken),
+    )
+
+returns-4 : tie.Need-returns-4
+unfolding go-refusal
+returns-4 c =
+    rw (
+      eq-eqb _ _ (c .before .before .before .before .before .before .if1 .left),
+      lt-leb _ _ (c .before .before .before .before .if2 .left),
+      ne-eqb _ _ (c .before .before .if3 .left),
+      ← c .before .breaks .ensures,
+      c .if4 .taken,
+    )
+
+returns-5 : tie.Need-returns-5
+unfolding go-refusal
+returns-5 c =
+    rw (
+      eq-eqb _ _ (c .before .before .before .before .before .before .if1 .left),
+      lt-leb _ _ (c .before .before .before .before .if2 .left),
+      ne-eqb _ _ (c .before .before .if3 .left),
+      ← c .before .breaks .ensures,
+      c .if4 .left,
+    )
 
 pub go-refusal-spec : {M : Type 1} → statement M
 go-refusal-spec =
     tie.close
     (tie.spec
     returns
-    (λ c κs. search needs)
     returns-2
-    returns-3)
+    returns-3
+    (λ c κs. search needs)
+    returns-4
+    returns-5)
