@@ -21,15 +21,15 @@ use Rattle.step.proofs.InPlace.{Ends, run-ends}
 use Rattle.reference.specs.Lists.{if-zero}
 use Rattle.reference.specs.State.{State}
 use Rattle.reference.specs.Start.{Config, config-cause, start}
-use Rattle.reference.specs.Step.{Move, next, run}
+use Rattle.reference.specs.Step.{next, run}
 use Rattle.reference.specs.Cause.{cause}
 use Rattle.reference.specs.Session.{moves}
 use Rattle.reference.proofs.Laws.{applied-is}
 use Rattle.reference.proofs.Legal.{legal}
 use Rattle.reference.proofs.Session.{run-snoc}
 use Rattle.session.proofs.Replayed as session
-use Rattle.session.proofs.Replayed.{move-at, moves-none, moves-more, length-moves}
-use Rattle.session.proofs.Reached.{made-of, moved-reached}
+use Rattle.session.proofs.Replayed.{move-at, moves-more, length-moves}
+use Rattle.session.proofs.Reached.{moved-reached}
 
 -- ---- the definition, at a move and at the end
 

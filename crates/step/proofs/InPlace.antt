@@ -1,6 +1,6 @@
 -- Moves in place: what a move sees and makes of the parts of a record is what it sees and makes of the record, one more move, and the end.
 -- Assumes nothing.
-use Prim.Native.Nat.{ℕ, zero, suc, _+_, _-_, _*_, _/_, _≤_, _<_}
+use Prim.Native.Nat.{ℕ, zero, suc, _+_, _-_, _*_, _/_, _<_}
 use mathlib.Core.Bool.{Bool, true, false, not, _&&_}
 use mathlib.Core.List.{List, [], _∷_}
 use mathlib.Core.Path.{_≡_, refl, sym, ap, _∙_}
@@ -13,9 +13,8 @@ use Rattle.reference.specs.Refusal.{refuse}
 use Rattle.state.specs.declared.Thread.{Thread}
 use Rattle.state.specs.declared.Processor.{Processor}
 use Rattle.state.specs.declared.Mutex.{Mutex}
-use Rattle.state.specs.declared.Chains.{Chains}
 use Rattle.state.specs.declared.State.{State}
-use Rattle.state.specs.Record.{processor-in, mutex-in, thread-in, processor-of, mutex-of, thread-of}
+use Rattle.state.specs.Record.{processor-in, mutex-in, processor-of, mutex-of, thread-of}
 use Rattle.state.specs.Model.{bytes-of, with-applied}
 use Rattle.state.proofs.Sized.{Sized}
 use Rattle.state.proofs.Bytes.{found-taken, bytes-status, bytes-length}

@@ -1,7 +1,5 @@
 // Moves: what a processor sees, what a move makes of it, and how that is put back in place.
 ghost use mathlib.Core.Path.{_≡_};
-ghost use Prim.Native.Nat.{_+_, _*_};
-ghost use lib.ListN.{getD};
 ghost use Rattle.reference.specs.Lists.{tabulate};
 ghost use Rattle.state.specs.Model.{thread-from};
 ghost use Rattle.step.specs.Model.{target-of, seen-of, carried-firsts, carried-threads, gathered-of, ran, run-of, moved-of};

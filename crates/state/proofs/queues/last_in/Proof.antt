@@ -1,7 +1,7 @@
 -- `state::queues::last_in` meets its contract.
 -- Assumes nothing.
 use Prim.Native.Nat.{_≤_, _-_, suc, _+_, _*_}
-use mathlib.Core.Path.{_≡_, sym, ap, _∙_}
+use mathlib.Core.Path.{_≡_, sym, _∙_}
 use native.Mathlib.Omega.{arith}
 use borrow.Author.Needs.{needs}
 use lib.ListN.{getD}

@@ -1,9 +1,8 @@
 -- `step::moves::moved` meets its contract.
 -- Assumes nothing.
-use mathlib.Core.Path.{_≡_, ap, _∙_}
+use mathlib.Core.Path.{ap, _∙_}
 use borrow.Author.Needs.{needs}
 use Rattle.step.specs.declared.Run.{Run}
-use Rattle.step.specs.declared.Moved.{Moved}
 use Rattle.step.proofs.InPlace.{moved-is}
 use Rattle.step.proofs.moves.moved.Statement.{statement}
 use Rattle.step.proofs.moves.moved.Tie as tie
