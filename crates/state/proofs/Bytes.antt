@@ -1,4 +1,4 @@
--- The threads as bytes: reading and writing a thread, the end of a chain, a transfer, and the threads back from their bytes.
+-- The threads as bytes: reading and writing a thread, the end of a chain, joining a queue, and the threads back from their bytes.
 -- Assumes nothing.
 use Prim.Native.Nat.{ℕ, zero, suc, _+_, _*_, _<_}
 use mathlib.Core.Bool.{Bool, true, false}
@@ -20,32 +20,21 @@ use native.Mathlib.Numerals.{add-one}
 
 -- ---- one thread
 
-pub bytes-status : (ts : List Thread) (k : ℕ) → getD (bytes-of ts) (3 * k) 0 ≡ thread-in ts k .status
+pub bytes-thread : (ts : List Thread) (k : ℕ) → thread-from (bytes-of ts) k ≡ thread-in ts k
 unfolding bytes-of
-bytes-status [] k = refl
-bytes-status (t ∷ ts) zero = refl
-bytes-status (t ∷ ts) (suc k) =
-    let e : 3 * suc k ≡ suc (suc (suc (3 * k))) = omega arith in
-    rw e (bytes-status ts k)
+bytes-thread [] k = refl
+bytes-thread (t ∷ ts) zero = refl
+bytes-thread (t ∷ ts) (suc k) =
+    let a : 3 * suc k ≡ suc (suc (suc (3 * k))) = omega arith in
+    let b : 3 * suc k + 1 ≡ suc (suc (suc (3 * k + 1))) = omega arith in
+    let c : 3 * suc k + 2 ≡ suc (suc (suc (3 * k + 2))) = omega arith in
+    rw (c, b, a) (bytes-thread ts k)
 
-pub bytes-holder : (ts : List Thread) (k : ℕ) → getD (bytes-of ts) (3 * k + 1) 0 ≡ thread-in ts k .holder
-unfolding bytes-of
-bytes-holder [] k = refl
-bytes-holder (t ∷ ts) zero = refl
-bytes-holder (t ∷ ts) (suc k) =
-    let e : 3 * suc k + 1 ≡ suc (suc (suc (3 * k + 1))) = omega arith in
-    rw e (bytes-holder ts k)
+pub bytes-status : (ts : List Thread) (k : ℕ) → getD (bytes-of ts) (3 * k) 0 ≡ thread-in ts k .status
+bytes-status ts k = ap (λ (t : Thread). t .status) (bytes-thread ts k)
 
 pub bytes-next : (ts : List Thread) (k : ℕ) → getD (bytes-of ts) (3 * k + 2) 0 ≡ next-of ts k
-unfolding bytes-of
-bytes-next [] k = refl
-bytes-next (t ∷ ts) zero = refl
-bytes-next (t ∷ ts) (suc k) =
-    let e : 3 * suc k + 2 ≡ suc (suc (suc (3 * k + 2))) = omega arith in
-    rw e (bytes-next ts k)
-
-pub bytes-thread : (ts : List Thread) (k : ℕ) → thread-from (bytes-of ts) k ≡ thread-in ts k
-bytes-thread ts k = (λ i. record { status = bytes-status ts k i; holder = bytes-holder ts k i; next = bytes-next ts k i })
+bytes-next ts k = ap (λ (t : Thread). t .next) (bytes-thread ts k)
 
 pub bytes-set : (ts : List Thread) (k : ℕ) (t : Thread) → with-thread (bytes-of ts) k t ≡ bytes-of (set ts k t)
 unfolding bytes-of

@@ -20,14 +20,10 @@ use Rattle.state.proofs.Sized.{Sized}
 use Rattle.state.proofs.Bytes.{found-taken, bytes-status, bytes-length}
 use Rattle.step.specs.declared.View.{View}
 use Rattle.step.specs.declared.Effect.{Effect}
-use Rattle.step.specs.declared.Sizes.{Sizes}
 use Rattle.step.specs.declared.Moved.{Moved}
 use Rattle.step.specs.declared.Run.{Run}
-use Rattle.step.specs.Model.{target-of, view-of, seen-of, carried, carried-firsts, carried-threads, act-effect, up-to, gathered-of, cause-of, step-breaks-of, refusal-of, stepped-of, moved-of, moved-at, refusal-seen, go-refusal, call-refusal, breaks-at, ran, run-from, run-of}
+use Rattle.step.specs.Model.{target-of, view-of, seen-of, carried, carried-firsts, carried-threads, act-effect, up-to, gathered-of, cause-of, step-breaks-of, refusal-of, stepped-of, moved-of, moved-at, sizes-of, refusal-seen, go-refusal, call-refusal, breaks-at, ran, run-from, run-of}
 use Rattle.step.proofs.Put.{carried-first, carried-bytes, length-firsts, length-threads}
-
-abbrev pub sizes-of : State → Sizes
-sizes-of s = record { p = s .p; t = s .t; m = s .m; applied = s .applied }
 
 -- ---- what a move sees
 

@@ -241,8 +241,14 @@ act-effect a o v = getD acts a go-call o v
 
 -- ---- why a move is refused
 
+abbrev pub operand-fits : Sizes → ℕ → ℕ → Bool
+operand-fits z a o = choose (in-range 1 3 a) (in-range 1 (z .m) o) (choose (eqb a 6) (in-range 1 (z .t) o) (eqb o 0))
+
+abbrev pub sizes-of : State → Sizes
+sizes-of s = record { p = s .p; t = s .t; m = s .m; applied = s .applied }
+
 abbrev pub operand-right : State → ℕ → ℕ → Bool
-operand-right s a o = choose (in-range 1 3 a) (in-range 1 (s .m) o) (choose (eqb a 6) (in-range 1 (s .t) o) (eqb o 0))
+operand-right s a o = operand-fits (sizes-of s) a o
 
 abbrev pub refusal-here : State → ℕ → ℕ → ℕ → ℕ
 refusal-here s p a o =
@@ -298,9 +304,6 @@ moved-of s p a o = record { refusal = refusal-of s p a o; state = choose (eqb (r
 -- ---- moves one after another, in place
 
 -- why a move is refused, by what it sees and by the status of the thread that its operand names
-abbrev pub operand-fits : Sizes → ℕ → ℕ → Bool
-operand-fits z a o = choose (in-range 1 3 a) (in-range 1 (z .m) o) (choose (eqb a 6) (in-range 1 (z .t) o) (eqb o 0))
-
 unfoldable pub go-refusal : Sizes → View → ℕ → ℕ
 go-refusal z v o =
     refuse (not (eqb o 0)) 3

@@ -17,8 +17,8 @@ use Rattle.state.specs.Model.{thread-from, bytes-of}
 use Rattle.state.proofs.Bytes.{threads-back}
 use Rattle.state.proofs.Past.{read-past, write-past}
 use Rattle.state.proofs.Sized.{sized}
-use Rattle.step.specs.Model.{gathered-of, ran, refusal-seen}
-use Rattle.step.proofs.InPlace.{Running, running-start, running-stop, running-more, running-end, bytes-size, sizes-of}
+use Rattle.step.specs.Model.{gathered-of, ran, sizes-of, refusal-seen}
+use Rattle.step.proofs.InPlace.{Running, running-start, running-stop, running-more, running-end, bytes-size}
 use Rattle.step.proofs.moves.run.Statement.{statement}
 use Rattle.step.proofs.moves.run.Tie as tie
 
