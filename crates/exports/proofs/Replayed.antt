@@ -16,7 +16,7 @@ use Rattle.state.specs.Model.{start-record}
 use Rattle.shown.proofs.Reached.{reached-allowed}
 use Rattle.step.specs.declared.Moved.{Moved}
 use Rattle.step.specs.declared.Run.{Run}
-use Rattle.step.specs.Model.{moved-of, moved-at, run-of}
+use Rattle.step.specs.Model.{moved-of, moved-at, run-of, counted-of}
 use Rattle.step.proofs.InPlace.{Ends, run-ends}
 use Rattle.reference.specs.Lists.{if-zero}
 use Rattle.reference.specs.State.{State}
@@ -26,7 +26,7 @@ use Rattle.reference.specs.Cause.{cause}
 use Rattle.reference.specs.Session.{moves}
 use Rattle.reference.proofs.Laws.{applied-is}
 use Rattle.reference.proofs.Legal.{legal}
-use Rattle.reference.proofs.Session.{run-snoc}
+use Rattle.reference.proofs.Moves.{run-snoc}
 use Rattle.session.proofs.Replayed as session
 use Rattle.session.proofs.Replayed.{move-at, moves-more, length-moves}
 use Rattle.session.proofs.Reached.{moved-reached}
@@ -133,12 +133,16 @@ module _ (c : Config) (right : config-cause c ≡ 0) (j : List ℕ) where
 -- ---- the code's replay, as a whole
 
 module _ (c : Config) (right : config-cause c ≡ 0) (j : List ℕ) where
-  more : (i : ℕ) (x : Record) → Going c j i x → i < length j / 3 → moved-at x j i .refusal ≡ 0 → Going c j (i + 1) (moved-at x j i .state)
-  more i x g l z = going-more c right j i x g _ refl (omega arith) z
+  -- the calls are not asked for
+  abbrev keeps : ℕ → Record → List ℕ → Type 0
+  keeps i x calls = Going c j i x
+
+  more : (i : ℕ) (x : Record) (calls : List ℕ) → Going c j i x → i < length j / 3 → moved-at x j i .refusal ≡ 0 → Going c j (i + 1) (moved-at x j i .state)
+  more i x calls g l z = going-more c right j i x g _ refl (omega arith) z
 
   module _ (s : Record) (e : s ≡ start-record (c .P) (c .T) (c .M) (c .B)) (r : Run) (ran : r ≡ run-of s j) where
-    ends : Ends j (Going c j) (length j / 3) more r
-    ends = rw ran (run-ends j (Going c j) (length j / 3) more (length j / 3) 0 s (going-start c right j s e) (omega arith))
+    ends : Ends j keeps (length j / 3) more r (counted-of s j [])
+    ends = rw ran (run-ends j keeps (length j / 3) more (length j / 3) 0 s [] (going-start c right j s e) (omega arith))
 
     pub ends-most : r .made ≤ 4000
     ends-most = ends .reached .most

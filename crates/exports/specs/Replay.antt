@@ -8,10 +8,10 @@ use Rattle.reference.specs.Refusal.{bad-operand, too-short, refuse}
 use Rattle.reference.specs.Lists.{if-zero}
 use Rattle.reference.specs.State.{State}
 use Rattle.reference.specs.Start.{Config, config-cause, start}
-use Rattle.reference.specs.Step.{Move, next}
+use Rattle.reference.specs.Step.{Move, move-of, next}
 use Rattle.reference.specs.Cause.{cause}
 use Rattle.reference.specs.Snapshot.{picture}
-use Rattle.session.specs.Contract.{move-of, or-later}
+use Rattle.session.specs.Contract.{or-later}
 
 -- refusal: the number of the first refused move, place: which move it is, counted from 1; both 0 where none is. state: before that move, or after all.
 pub record Replay : Type 0 where

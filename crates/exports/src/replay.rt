@@ -21,7 +21,8 @@ pub(crate) fn replay(p: u8, t: u8, m: u8, b: u8, moves: &[u8]) -> Replayed
     ensures { λ r. ⌜ Replays (table p t m b) (now (moves .entry)) r ⌝ }
 {
     let s = State::start(p, t, m, b);
-    let done = run(s, moves);
+    let mut none = [0u16; 1];
+    let done = run(s, moves, &mut none);
     let state = done.state;
     let refusal = done.refusal;
     let next = (done.made as u32) + 1;

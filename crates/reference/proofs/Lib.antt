@@ -1,6 +1,7 @@
 -- The scope's worked sessions, and the laws of the reference machine.
 pub mod Worked
 pub mod Tests
+pub mod Each
 pub mod Sums
 pub mod Same
 pub mod Legal
@@ -12,4 +13,6 @@ pub mod Lives
 pub mod Bound
 pub mod Laws
 pub mod Break
+pub mod Moves
+pub mod Script
 pub mod Session

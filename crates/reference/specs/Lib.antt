@@ -9,4 +9,5 @@ pub mod Break
 pub mod History
 pub mod Safe
 pub mod Snapshot
+pub mod Script
 pub mod Session

@@ -2,9 +2,9 @@
 -- Assumes nothing.
 use Prim.Native.Nat.{ℕ, zero, suc, _+_}
 use mathlib.Core.Bool.{Bool, true, false, _&&_}
-use mathlib.Core.List.{List, [], _∷_}
+use mathlib.Core.List.{List, [], _∷_, _++_}
 use lib.Dec.{eqb, leb}
-use lib.ListN.{getD, set}
+use lib.ListN.{length, getD, set, drop}
 
 module _ {ℓ} {A : Type ℓ} where
   -- the i-th of a list, or `d` where there is none
@@ -66,3 +66,12 @@ occurrences k l = sum (is k) l
 -- lo ≤ n ≤ hi
 abbrev pub in-range : ℕ → ℕ → ℕ → Bool
 in-range lo hi n = leb lo n && leb n hi
+
+-- the test holds of lo, lo + 1, and so on, n of them
+unfoldable pub each : (ℕ → Bool) → ℕ → ℕ → Bool
+each test lo zero = true
+each test lo (suc n) = test lo && each test (suc lo) n
+
+-- a buffer whose front is these bytes, its later bytes kept
+abbrev pub fronted : List ℕ → List ℕ → List ℕ
+fronted buffer bytes = bytes ++ drop (length bytes) buffer

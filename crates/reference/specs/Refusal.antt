@@ -63,9 +63,13 @@ bad-holder = 14
 abbrev pub bad-record : ℕ
 bad-record = 15
 
--- at a step back, the journal's standing moves do not replay to the record
+-- at a step back and at a class, the journal's standing moves do not replay to the record
 abbrev pub bad-journal : ℕ
 bad-journal = 16
+
+-- scripts' buffer short, or a script with over 6 calls or an action outside 1 to 6
+abbrev pub bad-script : ℕ
+bad-script = 19
 
 -- The number `n` where its cause is there; else what comes after it in the row decides.
 abbrev pub refuse : Bool → ℕ → ℕ → ℕ

@@ -208,6 +208,9 @@ pub record Move : Type 0 where
   pub action : ℕ
   pub operand : ℕ
 
+abbrev pub move-of : ℕ → ℕ → ℕ → Move
+move-of p a o = record { processor = p; action = a; operand = o }
+
 abbrev pub actions : List Action
 actions = go ∷ lock ∷ trylock ∷ unlock ∷ yield ∷ exit ∷ create ∷ []
 

@@ -9,16 +9,16 @@ use native.Mathlib.Decide.{decLe}
 use native.Mathlib.Omega.{arith}
 use borrow.Author.Tests.{eqb-true, eq-eqb, ne-eqb, not-true}
 use lib.Dec.{eqb, eqb·suc-zero}
-use Rattle.reference.specs.Lists.{choose, in-range}
+use Rattle.reference.specs.Lists.{choose, in-range, each}
 use Rattle.reference.specs.Snapshot.{stands-in}
 use Rattle.reference.proofs.Tests.{both, both-left, both-right, range-true, true-range}
 use Rattle.state.specs.declared.Thread.{Thread}
 use Rattle.state.specs.Record.{chain}
-use Rattle.state.specs.Rules.{each, every, no-twice, placed-in, met, chain-ok, chains-in}
+use Rattle.state.specs.Rules.{every, no-twice, placed-in, met, chain-ok, chains-in}
 use Rattle.rules.specs.declared.chain.Walked.{Walked}
 use Rattle.rules.specs.Walk.{has-bit, with-bit, walked, walk-from, walk-queues, queued, none-missed}
 use Rattle.rules.proofs.Bits.{has-none, has-with}
-use Rattle.rules.proofs.Each.{each-at, each-all}
+use Rattle.reference.proofs.Each.{each-at, each-all}
 use Rattle.rules.proofs.Logic.{either, either-left, either-right, implied, implies, never, refuted, same-tests}
 use Rattle.rules.proofs.Members.{stands-none, stands-cons, every-at, push, push-stands, Clean, clean-none, clean-first, clean-rest, clean-cons}
 

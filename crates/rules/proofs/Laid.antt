@@ -18,7 +18,7 @@ use Rattle.state.specs.Record.{zero-thread, thread-in, chain}
 use Rattle.state.specs.Rules.{every, placed-in, met, chain-ok, chains-in}
 use Rattle.rules.specs.Bytes.{thread-in-bytes}
 use Rattle.rules.specs.Walk.{write-thread, record-bytes}
-use Rattle.rules.proofs.Each.{each-agree}
+use Rattle.reference.proofs.Each.{each-agree}
 use Rattle.rules.proofs.Logic.{never}
 use Rattle.rules.proofs.Steps.{bytes-length}
 

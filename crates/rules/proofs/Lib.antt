@@ -1,6 +1,5 @@
 -- Laws behind the rules' code.
 pub mod Past
-pub mod Each
 pub mod Table
 pub mod Bits
 pub mod Steps

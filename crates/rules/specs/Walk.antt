@@ -6,10 +6,10 @@ use mathlib.Core.List.{List}
 use lib.Bits.{bitOr}
 use lib.Dec.{eqb, ltb}
 use lib.ListN.{set, replicate}
-use Rattle.reference.specs.Lists.{choose, in-range}
+use Rattle.reference.specs.Lists.{choose, in-range, each}
 use Rattle.state.specs.declared.Thread.{Thread}
 use Rattle.state.specs.Record.{thread-in}
-use Rattle.state.specs.Rules.{each, placed-in}
+use Rattle.state.specs.Rules.{placed-in}
 use Rattle.rules.specs.declared.chain.Walked.{Walked}
 
 -- ---- a set of thread numbers below 64 as the bits of a number

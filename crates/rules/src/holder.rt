@@ -1,7 +1,8 @@
 // Rule 14: current and transit registers against statuses 3 and 4.
 ghost use mathlib.Core.Path.{_≡_};
 ghost use Rattle.state.specs.Record.{thread-in, processor-in};
-ghost use Rattle.state.specs.Rules.{each, holders-ok};
+ghost use Rattle.state.specs.Rules.{holders-ok};
+ghost use Rattle.reference.specs.Lists.{each};
 ghost use Rattle.rules.specs.Holder.{register-holds, registers-hold, thread-held};
 use state::Processor;
 use state::State;

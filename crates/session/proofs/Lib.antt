@@ -1,11 +1,13 @@
--- Demand 3 and what it rests on.
+-- What the entry points' code finds, and what a record and a journal of a session keep.
 pub mod Standing
 pub mod Answers
 pub mod Reached
 pub mod Replayed
+pub mod Counted
 pub mod Undone
+pub mod Testing
 pub mod Pictures
-pub mod Theorem
-pub mod Claim
-pub mod Wrong
+pub mod Shown
+pub mod Holding
+pub mod Numbers
 pub mod Worked

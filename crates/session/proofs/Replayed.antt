@@ -14,10 +14,10 @@ use Rattle.state.specs.Association.{encode}
 use Rattle.state.specs.Model.{start-record}
 use Rattle.state.proofs.Started.{start-shown}
 use Rattle.step.specs.declared.Moved.{Moved}
-use Rattle.step.specs.Model.{moved-of, run-of}
+use Rattle.step.specs.Model.{moved-of, run-of, counted-of}
 use Rattle.step.proofs.InPlace.{Ends, run-ends}
 use Rattle.reference.specs.Start.{Config, config-cause, start}
-use Rattle.reference.proofs.Session.{run-snoc, accepted-snoc}
+use Rattle.reference.proofs.Moves.{run-snoc, accepted-snoc}
 use Rattle.session.specs.Replay.{Replays}
 use Rattle.session.proofs.Reached.{made-of, moved-reached}
 use Rattle.reference.specs.State.{State}
@@ -100,7 +100,7 @@ module _ (c : Config) (right : config-cause c ≡ 0) (j : List ℕ) where
         e ∙ ap (λ (x : Record). moved-of x (getD j (3 * i) 0) (getD j (3 * i + 1) 0) (getD j (3 * i + 2) 0)) (g .state) ∙
         moved-reached c (moves i j) right (g .all) (move-at j i)
 
-    caused : r .refusal ≡ cause (run (start c) (moves i j)) (move-at j i)
+    pub caused : r .refusal ≡ cause (run (start c) (moves i j)) (move-at j i)
     caused = ap (λ (x : Moved). x .refusal) made
 
     pub going-more : r .refusal ≡ 0 → Going c j (i + 1) (r .state)
@@ -143,8 +143,12 @@ module _ (c : Config) (right : config-cause c ≡ 0) (n : ℕ) (j : List ℕ) (h
   front-moves = omega (arith, length-take (3 * n) j)
 
   module _ (s : Record) (e : s ≡ start-record (c .P) (c .T) (c .M) (c .B)) where
-    ends : Ends front (Going c front) n (λ i r g l z. going-more c right front i r g _ refl z) (run-of s front)
-    ends = rw front-moves (run-ends front (Going c front) n (λ i r g l z. going-more c right front i r g _ refl z) n 0 s (going-start c right front s e) (omega arith))
+    -- the calls are not asked for
+    abbrev keeps : ℕ → Record → List ℕ → Type 0
+    keeps i r calls = Going c front i r
+
+    ends : Ends front keeps n (λ i r calls g l z. going-more c right front i r g _ refl z) (run-of s front) (counted-of s front [])
+    ends = rw front-moves (run-ends front keeps n (λ i r calls g l z. going-more c right front i r g _ refl z) n 0 s [] (going-start c right front s e) (omega arith))
 
     pub replayed : Replays c (moves n j) (record { all = eqb (run-of s front .refusal) 0; state = run-of s front .state })
     replayed = rw (← moves-front n j h) (by (eqb (run-of s front .refusal) 0) refl)

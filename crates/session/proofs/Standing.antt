@@ -9,7 +9,7 @@ use lib.ListN.{length, take, drop, set, length-append, length-drop, take-append-
 use lib.Seq.{sets-eq, take-at, drop-at, take-take, drop-drop, length-take-le}
 use Rattle.reference.specs.Step.{Move}
 use Rattle.reference.specs.Session.{bytes, moves, all-but-last}
-use Rattle.reference.proofs.Session.{length-all-but-last}
+use Rattle.reference.proofs.Moves.{length-all-but-last}
 use Rattle.session.specs.Contract.{written-at}
 
 pub length-bytes : (ms : List Move) → length (bytes ms) ≡ 3 * length ms
@@ -33,6 +33,17 @@ moves-front ms j e =
     subst (λ (l : List ℕ). moves (length ms) l ≡ ms)
     (ap (λ (r : List ℕ). r ++ drop (3 * length ms) j) (sym e) ∙ take-append-drop (3 * length ms) j)
     (moves-bytes ms (drop (3 * length ms) j))
+
+-- a journal that is long enough begins with its first moves
+pub bytes-moves : (n : ℕ) (j : List ℕ) → 3 * n ≤ length j → take (3 * n) j ≡ bytes (moves n j)
+unfolding bytes moves
+bytes-moves zero j h = refl
+bytes-moves (suc n) [] h = absurd (omega arith)
+bytes-moves (suc n) (a ∷ []) h = absurd (omega arith)
+bytes-moves (suc n) (a ∷ b ∷ []) h = absurd (omega arith)
+bytes-moves (suc n) (a ∷ b ∷ c ∷ j) h =
+    let triple : 3 * suc n ≡ suc (suc (suc (3 * n))) = omega arith in
+    ap (λ (k : ℕ). take k (a ∷ b ∷ c ∷ j)) triple ∙ ap (λ (l : List ℕ). a ∷ b ∷ c ∷ l) (bytes-moves n j (omega arith))
 
 -- a list that is not empty is all but its last, then its last
 pub last-apart : (a : Move) (ms : List Move) → (l : Move) × (a ∷ ms ≡ all-but-last (a ∷ ms) ++ l ∷ [])

@@ -14,6 +14,7 @@ use Rattle.state.specs.declared.Session.{Session}
 use Rattle.state.specs.declared.State.{State as Record}
 use Rattle.state.specs.Association.{encode, decode}
 use Rattle.state.specs.Rules.{state-ok, session-ok}
+use Rattle.state.specs.Allowed.{Allowed}
 use Rattle.state.proofs.Sized.{Sized}
 use Rattle.step.specs.declared.Moved.{Moved}
 use Rattle.step.specs.Model.{moved-of}
@@ -26,12 +27,12 @@ use Rattle.reference.specs.Cause.{cause, accepted}
 use Rattle.reference.specs.Session.{moves, all-but-last, replays}
 use Rattle.reference.proofs.Tests.{true-range}
 use Rattle.reference.proofs.Same.{same-state-exact}
-use Rattle.reference.proofs.Session.{run-snoc, accepted-snoc, accepted-all-but-last}
+use Rattle.reference.proofs.Moves.{run-snoc, accepted-snoc, accepted-all-but-last}
 use Rattle.shown.proofs.Kept.{state-kept, fields-say}
 use Rattle.shown.proofs.Decode.{decode-encode, encode-ok}
 use Rattle.shown.proofs.Reached.{reached-allowed}
 use Rattle.shown.proofs.Unique.{session-held}
-use Rattle.session.specs.Contract.{shown, config-of, or-later, lent-refusal, standing, undo-refusal, undone}
+use Rattle.session.specs.Contract.{shown, config-of, or-later, lent-refusal, standing, replayed, undo-refusal, undone}
 use Rattle.session.specs.Replay.{Replays, BeforeLast}
 use Rattle.session.proofs.Reached.{made-of, moved-reached}
 use Rattle.session.proofs.Replayed.{move-at, moves-more, moves-but-last, refused-on}
@@ -60,6 +61,33 @@ module _ (r : Session) (size : Sized (r .state)) (ok : session-ok r ≡ true) wh
 
   shown-back : encode (shown r) ≡ r .state
   shown-back = ap (λ (x : Session). x .state) (session-held r size ok .same)
+
+-- the record of the state that accepted moves give, from that start table
+module _ (r : Session) (size : Sized (r .state)) (ok : session-ok r ≡ true) (ms : List Move) (legal : accepted (start (config-of r)) ms ≡ true) (s : Record)
+    (is : s ≡ encode (run (start (config-of r)) ms)) where
+  allowed : Allowed (run (start (config-of r)) ms)
+  allowed = reached-allowed (config-of r) (config-right r size ok) ms legal
+
+  pub given-ok : state-ok s ≡ true
+  given-ok = rw is (encode-ok _ allowed)
+
+  back : decode s ≡ run (start (config-of r)) ms
+  back = rw is (decode-encode _ allowed)
+
+  -- the states are the same exactly where the records are
+  alike-is : (b : Bool) → (b ≡ true → s ≡ r .state) → (s ≡ r .state → b ≡ true) → b ≡ same-state (run (start (config-of r)) ms) (shown r)
+  alike-is true f g = sym (rw (sym back ∙ ap decode (f refl)) (same-state-exact .itself (shown r)))
+  alike-is false f g = by (same-state (run (start (config-of r)) ms) (shown r)) refl
+    where
+      by : (b : Bool) → same-state (run (start (config-of r)) ms) (shown r) ≡ b → false ≡ same-state (run (start (config-of r)) ms) (shown r)
+      by false z = sym z
+      by true z =
+          let w : run (start (config-of r)) ms ≡ shown r = same-state-exact .only _ _ z in
+          absurd (true≢false (sym (g (is ∙ ap encode w ∙ shown-back r size ok))))
+
+  pub given-replays : (b : Bool) → (b ≡ true → s ≡ r .state) → (s ≡ r .state → b ≡ true) → b ≡ replays (start (config-of r)) ms (shown r)
+  unfolding replays
+  given-replays b f g = alike-is b f g ∙ sym (rw legal)
 
 -- a list whose front is not accepted is not
 longer-refused : (ms : List Move) (s : State) (rest : List Move) → accepted s ms ≡ false → accepted s (ms ++ rest) ≡ false
@@ -125,25 +153,10 @@ module _ (r : Session) (size : Sized (r .state)) (ok : session-ok r ≡ true) (j
           rw (eq-eqb (cause (run (start c) (moves n j)) (move-at j n)) 0 none, moves-more n j, run-snoc (moves n j) (start c) (move-at j n))
 
       pub state-keeps : state-ok (made .state) ≡ true
-      state-keeps = rw state-is (encode-ok _ (reached-allowed c right (moves (n + 1) j) whole))
-
-      back : decode (made .state) ≡ run (start c) (moves (n + 1) j)
-      back = rw state-is (decode-encode _ (reached-allowed c right (moves (n + 1) j) whole))
-
-      -- the states are the same exactly where the records are
-      alike-is : (b : Bool) → (b ≡ true → made .state ≡ r .state) → (made .state ≡ r .state → b ≡ true) → b ≡ same-state (run (start c) (moves (n + 1) j)) (shown r)
-      alike-is true f g = sym (rw (sym back ∙ ap decode (f refl)) (same-state-exact .itself (shown r)))
-      alike-is false f g = by (same-state (run (start c) (moves (n + 1) j)) (shown r)) refl
-        where
-          by : (b : Bool) → same-state (run (start c) (moves (n + 1) j)) (shown r) ≡ b → false ≡ same-state (run (start c) (moves (n + 1) j)) (shown r)
-          by false z = sym z
-          by true z =
-              let w : run (start c) (moves (n + 1) j) ≡ shown r = same-state-exact .only _ _ z in
-              absurd (true≢false (sym (g (state-is ∙ ap encode w ∙ shown-back r size ok))))
+      state-keeps = given-ok r size ok (moves (n + 1) j) whole (made .state) state-is
 
       pub compared : (b : Bool) → (b ≡ true → made .state ≡ r .state) → (made .state ≡ r .state → b ≡ true) → BeforeLast r j n (record { all = b; state = found .state })
-      unfolding replays
-      compared b f g = record { all = alike-is b f g ∙ sym (rw whole); state = λ x. h .state all }
+      compared b f g = record { all = given-replays r size ok (moves (n + 1) j) whole (made .state) state-is b f g; state = λ x. h .state all }
 
 -- ---- the answers
 
@@ -176,7 +189,7 @@ module _ (r : Session) (j : List ℕ) where
           or-later (lent-refusal r (length j)) (refuse (eqb k 0) 9 (refuse (not (replays (start (config-of r)) (moves k j) (shown r))) 16 0))
 
       number-is : refuse (not (b .all)) 16 0 ≡ undo-refusal r j
-      unfolding undo-refusal number-with
+      unfolding undo-refusal number-with replayed
       number-is =
           let e : refuse (not (b .all)) 16 0 ≡ number-with (n + 1) = rw (free, ne-eqb (n + 1) 0 (omega arith), h .all) in
           e ∙ ap number-with (sym stand)

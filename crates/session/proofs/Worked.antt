@@ -3,8 +3,8 @@
 use mathlib.Core.Path.{refl}
 use Rattle.state.specs.Record.{chain}
 use Rattle.state.specs.Association.{encode, decode}
-use Rattle.state.specs.Rules.{session-ok, state-ok, zero-past, broken-rule, fields-ok, chains-ok, holders-ok, chain-ok, processor-ok, mutex-ok, thread-ok, each, every, no-twice}
-use Rattle.reference.specs.Lists.{tabulate, find, sum, is}
+use Rattle.state.specs.Rules.{session-ok, state-ok, zero-past, broken-rule, fields-ok, chains-ok, holders-ok, chain-ok, processor-ok, mutex-ok, thread-ok, every, no-twice}
+use Rattle.reference.specs.Lists.{tabulate, find, sum, is, each}
 use Rattle.reference.specs.State.{line-of}
 use Rattle.reference.specs.Start.{config-cause, start}
 use Rattle.reference.specs.Step.{next, run, act, action-of, line}

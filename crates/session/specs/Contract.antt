@@ -1,22 +1,24 @@
--- What start, move, step back and the journal's front answer, on all inputs: the equations that their contracts state.
+-- What start, move, step back, the journal's front and its test answer, on all inputs: the equations that their contracts state.
 -- Assumes nothing.
 use Prim.Native.Nat.{ℕ, _+_, _*_}
-use mathlib.Core.Bool.{not}
+use mathlib.Core.Bool.{Bool, not}
 use mathlib.Core.List.{List, [], _∷_, _++_}
 use lib.Dec.{eqb}
-use lib.ListN.{length, take, drop}
+use lib.ListN.{length, take, drop, replicate}
 use Rattle.session.specs.declared.Answer.{Answer}
+use Rattle.session.specs.declared.Tested.{Tested}
 use Rattle.state.specs.declared.Session.{Session}
 use Rattle.state.specs.Record.{zero-session}
 use Rattle.state.specs.Association.{decode, session-record}
 use Rattle.state.specs.Rules.{session-ok}
 use Rattle.reference.specs.Refusal.{too-short, bad-record, nothing-applied, bad-journal, refuse}
-use Rattle.reference.specs.Lists.{choose, if-zero}
+use Rattle.reference.specs.Lists.{choose, if-zero, tabulate}
 use Rattle.reference.specs.State.{State}
 use Rattle.reference.specs.Start.{Config, config-cause, start}
 use Rattle.reference.specs.Step.{Move, next, run}
 use Rattle.reference.specs.Cause.{cause}
 use Rattle.reference.specs.Break.{step-breaks}
+use Rattle.reference.specs.Script.{progress}
 use Rattle.reference.specs.Session.{bytes, moves, all-but-last, short, replays}
 
 -- the state that a record shows, and the start table read off it
@@ -26,12 +28,9 @@ shown r = decode (r .state)
 abbrev pub config-of : Session → Config
 config-of r = record { P = r .state .p; T = r .state .t; M = r .state .m; B = r .initial }
 
--- a start table and a move, from their numbers
+-- a start table from its numbers
 abbrev pub table : ℕ → ℕ → ℕ → ℕ → Config
 table p t m b = record { P = p; T = t; M = m; B = b }
-
-abbrev pub move-of : ℕ → ℕ → ℕ → Move
-move-of p a o = record { processor = p; action = a; operand = o }
 
 -- accepted, a call gives the record that it makes; refused, the one that stands for it
 abbrev pub answered : ℕ → Session → Session → Answer
@@ -66,17 +65,33 @@ written-at n a j = take (3 * n) j ++ bytes (a ∷ []) ++ drop (3 * n + 3) j
 unfoldable pub journal-after : Session → List ℕ → Move → List ℕ
 journal-after r j a = choose (eqb (move-refusal r j a) 0) (written-at (shown r .applied) a j) j
 
--- ---- step back: 10, 15, 9, 16; refused, the record handed in. The journal is left.
+-- ---- the journal's test: 10, 15, 16; and how many calls each thread has made by the journal, 0 where 10 or 15 is there
 
 -- the journal's standing moves
 abbrev pub standing : Session → List ℕ → List Move
 standing r j = moves (shown r .applied) j
 
+-- they give the record
+unfoldable pub replayed : Session → List ℕ → Bool
+replayed r j = replays (start (config-of r)) (standing r j) (shown r)
+
+abbrev pub progress-in : Session → List ℕ → ℕ → ℕ
+progress-in r j = progress (start (config-of r)) (standing r j)
+
+unfoldable pub tested : Session → List ℕ → Tested
+tested r j =
+    record {
+      refusal = or-later (lent-refusal r (length j)) (refuse (not (replayed r j)) bad-journal 0);
+      calls = if-zero (lent-refusal r (length j)) (tabulate (progress-in r j) 0 33) (replicate 33 0);
+    }
+
+-- ---- step back: 10, 15, 9, 16; refused, the record handed in. The journal is left.
+
 unfoldable pub undo-refusal : Session → List ℕ → ℕ
 undo-refusal r j =
     or-later (lent-refusal r (length j))
     (refuse (eqb (shown r .applied) 0) nothing-applied
-    (refuse (not (replays (start (config-of r)) (standing r j) (shown r))) bad-journal 0))
+    (refuse (not (replayed r j)) bad-journal 0))
 
 unfoldable pub undone : Session → List ℕ → Answer
 undone r j = answered (undo-refusal r j) (session-record (run (start (config-of r)) (all-but-last (standing r j))) (r .initial)) r

@@ -1,5 +1,4 @@
 -- What the entry points answer, and the claim about a session's whole list of calls.
 pub mod Contract
-pub mod Demand
 pub mod Replay
 pub mod Worked

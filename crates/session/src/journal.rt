@@ -1,16 +1,15 @@
 // The journal: move k is bytes 3(k - 1) to 3k - 1.
 ghost use mathlib.Core.Path.{_≡_};
-ghost use Prim.Native.Nat.{_+_, _*_, _≤_};
-ghost use lib.ListN.{length};
-ghost use Rattle.session.specs.Contract.{move-of, written-at};
+ghost use Prim.Native.Nat.{_+_, _*_};
+ghost use lib.ListN.{set};
+use state::queues::put;
 
-// The three bytes of a move, from byte 3n on.
-pub(crate) fn write_move(journal: &mut [u8], n: u16, p: u8, a: u8, o: u8)
-    requires { ⌜ 3 * n + 3 ≤ length (now journal) ⌝ }
-    ensures { λ x. ⌜ now (journal .exit) ≡ written-at n (move-of p a o) (now (journal .entry)) ⌝ }
+// The three bytes of a move, from byte 3n on; past the journal's end nothing is written.
+pub fn write_move(journal: &mut [u8], n: u16, p: u8, a: u8, o: u8)
+    ensures { λ x. ⌜ now (journal .exit) ≡ set (set (set (now (journal .entry)) (3 * n) p) (3 * n + 1) a) (3 * n + 2) o ⌝ }
 {
     let at = 3 * (n as usize);
-    journal[at] = p;
-    journal[at + 1] = a;
-    journal[at + 2] = o;
+    put(journal, at, p);
+    put(journal, at + 1, a);
+    put(journal, at + 2, o);
 }

@@ -1,4 +1,4 @@
-// Sessions: start, move, step back and the journal's front.
+// Sessions: start, move, step back, the journal's front and its test.
 pub mod journal;
 mod replay;
 mod same;
@@ -9,8 +9,9 @@ ghost use Prim.Native.Nat.{_+_, _≤_};
 ghost use Rattle.state.specs.Rules.{session-ok};
 ghost use Rattle.session.specs.Replay.{BeforeLast};
 ghost use Rattle.reference.specs.Lists.{in-range};
+ghost use Rattle.reference.specs.Step.{move-of};
 ghost use lib.ListN.{length};
-ghost use Rattle.session.specs.Contract.{table, move-of, started, lent-refusal, moved, journal-after, undone, front};
+ghost use Rattle.session.specs.Contract.{table, started, lent-refusal, moved, journal-after, tested, undone, front};
 use crate::journal::write_move;
 use crate::replay::Replayed;
 use crate::replay::replay;
@@ -23,6 +24,12 @@ use state::State;
 pub struct Answer {
     pub refusal: u8,
     pub session: Session,
+}
+
+// What the test of a journal finds: 10, 15 or 16, or 0; and how many calls each thread has made by it.
+pub struct Tested {
+    pub refusal: u8,
+    pub calls: [u16; 33],
 }
 
 const BAD_CONFIG: u8 = 1;
@@ -66,8 +73,8 @@ pub fn start(p: u8, t: u8, m: u8, b: u8) -> Answer
     }
 }
 
-// The first causes of each call that is lent a journal of n bytes.
-fn lent(session: Session, n: usize) -> u8
+// The first causes of each call that is lent a journal of n bytes: 10, 15.
+pub fn lent(session: Session, n: usize) -> u8
     ensures { λ r. ⌜ r ≡ lent-refusal session n ⌝ }
 {
     if n < 12000 {
@@ -101,6 +108,43 @@ pub fn make_move(session: Session, journal: &mut [u8], p: u8, a: u8, o: u8) -> A
     Answer {
         refusal: 0,
         session: Session { state, initial },
+    }
+}
+
+// Tests a journal: whether its standing moves give the record, and how many calls each thread makes in them up to the first that is refused.
+pub fn test_journal(session: Session, journal: &[u8]) -> Tested
+    ensures { λ r. ⌜ r ≡ tested session (now (journal .entry)) ⌝ }
+{
+    let mut calls = [0u16; 33];
+    let first = lent(session, journal.len());
+    if first != 0 {
+        return Tested {
+            refusal: first,
+            calls,
+        };
+    }
+    let state = session.state;
+    let n = state.applied;
+    let found = replay(
+        state.p,
+        state.t,
+        state.m,
+        session.initial,
+        journal,
+        n,
+        &mut calls,
+    );
+    let all = found.all;
+    if all {
+        let whole = found.state;
+        let alike = same_state(whole, state);
+        if alike {
+            return Tested { refusal: 0, calls };
+        }
+    }
+    Tested {
+        refusal: BAD_JOURNAL,
+        calls,
     }
 }
 
@@ -145,7 +189,16 @@ fn before_last(session: Session, journal: &[u8], n: u16) -> Replayed
     ensures { λ r. ⌜ BeforeLast session (now (journal .entry)) n r ⌝ }
 {
     let state = session.state;
-    let found = replay(state.p, state.t, state.m, session.initial, journal, n);
+    let mut none = [0u16; 1];
+    let found = replay(
+        state.p,
+        state.t,
+        state.m,
+        session.initial,
+        journal,
+        n,
+        &mut none,
+    );
     let all = found.all;
     let before = found.state;
     if all {

@@ -14,10 +14,10 @@ use Rattle.state.specs.declared.Mutex.{Mutex}
 use Rattle.state.specs.declared.State.{State}
 use Rattle.state.specs.Record.{zero-thread, thread-of, processor-of, mutex-of, first-of}
 use Rattle.state.specs.Association.{encode, decode, queue-at, thread-row, queue-shown, mutex-shown, processor-shown, life-shown, thread-record, processor-record, mutex-record}
-use Rattle.state.specs.Rules.{each, placed-in, register-matches, state-ok, every}
+use Rattle.state.specs.Rules.{placed-in, register-matches, state-ok, every}
 use Rattle.state.specs.Allowed.{Allowed}
 use Rattle.state.proofs.Sized.{Sized}
-use Rattle.reference.specs.Lists.{choose, in-range, is, sum, occurrences, tabulate}
+use Rattle.reference.specs.Lists.{choose, in-range, is, sum, occurrences, tabulate, each}
 use Rattle.reference.specs.State as reference
 use Rattle.reference.specs.State.{live, same-life, processor-at, mutex-at, life-at, nobody, free-mutex, line-of, row}
 use Rattle.reference.specs.Snapshot.{first, behind, thread-entry}

@@ -16,9 +16,9 @@ use Rattle.state.specs.declared.Mutex.{Mutex}
 use Rattle.state.specs.declared.State.{State}
 use Rattle.state.specs.Record.{zero-thread, zero-token, zero-processor, zero-mutex, thread-of, processor-of, mutex-of, first-of}
 use Rattle.state.specs.Association.{queue-shown}
-use Rattle.state.specs.Rules.{each, processor-ok, register-ok, mutex-ok, holder-ok, next-ok, thread-ok, fields-ok, placed-in, chain-ok, chains-ok, register-matches, thread-matches, holders-ok, broken-rule, zero-token?, zero-processor?, zero-mutex?, zero-thread?, within-or, zero-past, state-ok}
+use Rattle.state.specs.Rules.{processor-ok, register-ok, mutex-ok, holder-ok, next-ok, thread-ok, fields-ok, placed-in, chain-ok, chains-ok, register-matches, thread-matches, holders-ok, broken-rule, zero-token?, zero-processor?, zero-mutex?, zero-thread?, within-or, zero-past, state-ok}
 use Rattle.state.proofs.Sized.{Sized}
-use Rattle.reference.specs.Lists.{choose, in-range}
+use Rattle.reference.specs.Lists.{choose, in-range, each}
 use Rattle.reference.specs.State.{Row, row, line-of}
 use Rattle.reference.specs.Safe.{In}
 use Rattle.reference.proofs.Tests.{both, both-left, both-right, _and_, range-true, true-range, passed}

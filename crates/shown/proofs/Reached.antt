@@ -17,7 +17,7 @@ use Rattle.reference.proofs.Invariant.{Good, gone}
 use Rattle.reference.proofs.Bound.{count-bound}
 use Rattle.reference.proofs.Start.{ranges}
 use Rattle.reference.proofs.Laws.{good, sized}
-use Rattle.reference.proofs.Session.{session-accepted}
+use Rattle.reference.proofs.Session.{accepted-left}
 use Rattle.shown.proofs.Regular.{regular-allowed}
 
 gone-is : (l : Life) → one-if (not (same-life l live)) ≡ gone l
@@ -48,5 +48,5 @@ reached-allowed c e ms ok =
     good-allowed (run (start c) ms) (good c e ms ok) (rw (z .0) (r .processors)) (rw (z .1) (r .threads)) (rw (z .2) (r .mutexes))
 
 -- and so of whatever a session holds
-pub session-allowed : (c : Config) (n : ℕ) (calls : List Call) → config-cause c ≡ 0 → Allowed (state-of c (left c n [] calls))
-session-allowed c n calls e = reached-allowed c e (left c n [] calls) (session-accepted c n calls)
+pub session-allowed : (c : Config) (n : ℕ) (ms : List Move) (calls : List Call) → config-cause c ≡ 0 → accepted (start c) ms ≡ true → Allowed (state-of c (left c n ms calls))
+session-allowed c n ms calls e ok = reached-allowed c e (left c n ms calls) (accepted-left c n calls ms ok)

@@ -8,9 +8,8 @@ use mathlib.Core.Path.{_≡_, refl, ap, sym, _∙_}
 use native.Mathlib.Omega.{arith}
 use lib.ListN.{length, set, take, drop, length-drop, drop-of-length-le}
 use lib.Seq.{take-all}
-use Rattle.reference.specs.Lists.{tabulate}
-use Rattle.state.specs.Rules.{each}
-use Rattle.rules.proofs.Each.{each-none, each-next}
+use Rattle.reference.specs.Lists.{tabulate, each}
+use Rattle.reference.proofs.Each.{each-none, each-next}
 use Rattle.snapshot.specs.Snapshot.{byte, one-of, from-record, first-read}
 use Rattle.snapshot.proofs.Tables.{set-row, row-more}
 

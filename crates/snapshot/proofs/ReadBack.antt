@@ -12,10 +12,9 @@ use Rattle.state.specs.declared.Processor.{Processor}
 use Rattle.state.specs.declared.Mutex.{Mutex}
 use Rattle.state.specs.declared.State.{State}
 use Rattle.state.specs.Record.{zero-thread, zero-processor, zero-mutex, thread-of, processor-of, mutex-of, first-of}
-use Rattle.state.specs.Rules.{each}
 use Rattle.state.proofs.Sized.{Sized}
-use Rattle.rules.proofs.Each.{each-all}
-use Rattle.reference.specs.Lists.{tabulate, in-range}
+use Rattle.reference.proofs.Each.{each-all}
+use Rattle.reference.specs.Lists.{tabulate, in-range, each}
 use Rattle.reference.specs.Safe.{In}
 use Rattle.reference.proofs.Tests.{both, range-true, true-range}
 use Rattle.association.proofs.Tables.{tabulate-of}

@@ -18,7 +18,7 @@ use Rattle.reference.specs.Lists.{tabulate, in-range}
 use Rattle.reference.specs.Snapshot.{picture}
 use Rattle.reference.proofs.Tests.{both, both-left, _and_, range-true, true-range, passed}
 use Rattle.reference.proofs.Sums.{length-tabulate, tabulate-getD}
-use Rattle.rules.proofs.Each.{each-all}
+use Rattle.reference.proofs.Each.{each-all}
 use Rattle.shown.proofs.Kept.{Facts, facts, state-kept}
 use Rattle.snapshot.specs.Snapshot.{byte, one-of, processor-read, mutex-read, thread-read, first-read, processors-part, mutexes-part, threads-part, picture-length, write-refusal, written, fields, zero-bytes-ok, read-refusal, read}
 use Rattle.snapshot.specs.Model.{record-bytes}

@@ -15,7 +15,7 @@ use Rattle.reference.specs.Safe.{In}
 use Rattle.reference.proofs.Tests.{_and_, true-range}
 use Rattle.reference.proofs.Sums.{tabulate-getD}
 use Rattle.association.proofs.Tables.{tabulate-of}
-use Rattle.rules.proofs.Each.{each-at}
+use Rattle.reference.proofs.Each.{each-at}
 use Rattle.snapshot.specs.Snapshot.{byte, two-at, from-record, one-of, processor-field, mutex-field, thread-field, first-read, processors-part, mutexes-part, threads-part, threads-at, fields, zero-at, processor-zeros, mutex-zeros, thread-zeros, zero-bytes-ok}
 use Rattle.snapshot.specs.Model.{rows, header-bytes, processor-bytes, mutex-bytes, thread-bytes, processors-bytes, mutexes-bytes, threads-bytes, record-bytes}
 use Rattle.snapshot.proofs.ReadBack.{parts}

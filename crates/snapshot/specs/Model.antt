@@ -13,10 +13,10 @@ use Rattle.state.specs.declared.Processor.{Processor}
 use Rattle.state.specs.declared.Mutex.{Mutex}
 use Rattle.state.specs.declared.State.{State}
 use Rattle.state.specs.Record.{thread-of, processor-of, mutex-of, first-of, zero-state, chain}
-use Rattle.state.specs.Rules.{each, sizes-ok, fields-ok, chains-in, holders-ok}
+use Rattle.state.specs.Rules.{sizes-ok, fields-ok, chains-in, holders-ok}
 use Rattle.rules.specs.Bytes.{thread-in-bytes}
 use Rattle.reference.specs.Refusal.{bad-length, bad-field, bad-chain, bad-holder, refuse}
-use Rattle.reference.specs.Lists.{choose, if-zero, tabulate}
+use Rattle.reference.specs.Lists.{choose, if-zero, tabulate, each}
 use Rattle.reference.specs.Snapshot.{two}
 use Rattle.snapshot.specs.Turns.{before}
 use Rattle.snapshot.specs.Snapshot.{byte, two-at, from-record, processors-part, mutexes-part, first-read, thread-read, processor-read, mutex-read, zero-at, processor-zeros, mutex-zeros, thread-zeros, picture-length, fields}

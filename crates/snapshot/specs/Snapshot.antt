@@ -12,9 +12,9 @@ use Rattle.state.specs.declared.Mutex.{Mutex}
 use Rattle.state.specs.declared.State.{State}
 use Rattle.state.specs.Record.{zero-thread, zero-processor, zero-mutex, zero-state}
 use Rattle.state.specs.Association.{decode}
-use Rattle.state.specs.Rules.{each, sizes-ok, broken-rule, state-ok}
+use Rattle.state.specs.Rules.{sizes-ok, broken-rule, state-ok}
 use Rattle.reference.specs.Refusal.{too-short, bad-length, bad-field, bad-record, refuse}
-use Rattle.reference.specs.Lists.{choose, if-zero, in-range, tabulate}
+use Rattle.reference.specs.Lists.{choose, if-zero, in-range, tabulate, each}
 use Rattle.reference.specs.Snapshot.{picture}
 
 -- where the thread records begin: after the header, P processor records and M mutex records

@@ -12,14 +12,9 @@ use Rattle.state.specs.declared.State.{State}
 use Rattle.state.specs.declared.Session.{Session}
 use Rattle.state.specs.Record.{thread-of, processor-of, mutex-of, first-of, chain}
 use Rattle.reference.specs.Refusal.{bad-field, bad-chain, bad-holder, refuse}
-use Rattle.reference.specs.Lists.{choose, in-range}
+use Rattle.reference.specs.Lists.{choose, in-range, each}
 use Rattle.reference.specs.State.{Row, row, line-of}
 use Rattle.reference.specs.Snapshot.{stands-in}
-
--- the test holds of lo, lo + 1, and so on, n of them
-unfoldable pub each : (ℕ → Bool) → ℕ → ℕ → Bool
-each test lo zero = true
-each test lo (suc n) = test lo && each test (suc lo) n
 
 -- the test holds of each member
 unfoldable pub every : (ℕ → Bool) → List ℕ → Bool

@@ -22,7 +22,7 @@ use Rattle.step.specs.declared.View.{View}
 use Rattle.step.specs.declared.Effect.{Effect}
 use Rattle.step.specs.declared.Moved.{Moved}
 use Rattle.step.specs.declared.Run.{Run}
-use Rattle.step.specs.Model.{target-of, view-of, seen-of, carried, carried-firsts, carried-threads, act-effect, up-to, gathered-of, cause-of, step-breaks-of, refusal-of, stepped-of, moved-of, moved-at, sizes-of, refusal-seen, go-refusal, call-refusal, breaks-at, ran, run-from, run-of}
+use Rattle.step.specs.Model.{target-of, view-of, seen-of, carried, carried-firsts, carried-threads, act-effect, up-to, gathered-of, cause-of, step-breaks-of, refusal-of, stepped-of, moved-of, moved-at, sizes-of, refusal-seen, go-refusal, call-refusal, breaks-at, ran, run-from, run-of, noted, noted-at, counted-from, counted-of}
 use Rattle.step.proofs.Put.{carried-first, carried-bytes, length-firsts, length-threads}
 
 -- ---- what a move sees
@@ -107,39 +107,89 @@ module _ (j : List ℕ) (n i : ℕ) (s : State) (h : i < n) where
       let k : n - i ≡ suc (n - (i + 1)) = omega arith in
       rw (k, ne-eqb _ 0 z)
 
+  pub counted-more : (calls : List ℕ) → refusal ≡ 0 →
+      counted-from j (n - i) i s calls ≡
+      counted-from j (n - (i + 1)) (i + 1) (stepped-of s (getD j (3 * i) 0) (getD j (3 * i + 1) 0) (getD j (3 * i + 2) 0)) (noted-at s j i calls)
+  unfolding counted-from moved-of
+  counted-more calls z =
+      let k : n - i ≡ suc (n - (i + 1)) = omega arith in
+      rw (k, z)
+
+  pub counted-stop : (calls : List ℕ) → (refusal ≡ 0 → ⊥) → counted-from j (n - i) i s calls ≡ calls
+  unfolding counted-from moved-of
+  counted-stop calls z =
+      let k : n - i ≡ suc (n - (i + 1)) = omega arith in
+      rw (k, ne-eqb _ 0 z)
+
 pub run-end : (j : List ℕ) (n : ℕ) (s : State) → run-from j (n - n) n s ≡ ran 0 n s
 unfolding run-from
 run-end j n s =
     let k : n - n ≡ 0 = omega arith in
     rw k
 
--- what each accepted move keeps, all moves keep: to the end, or to the first refused move
-module _ (j : List ℕ) (G : ℕ → State → Type 0) (last : ℕ)
-    (more :
-    (i : ℕ) (s : State) → G i s → i < last → moved-at s j i .refusal ≡ 0 →
-    G (i + 1) (moved-at s j i .state))
+pub counted-end : (j : List ℕ) (n : ℕ) (s : State) (calls : List ℕ) → counted-from j (n - n) n s calls ≡ calls
+unfolding counted-from
+counted-end j n s calls =
+    let k : n - n ≡ 0 = omega arith in
+    rw k
+
+length-noted : (s : State) (j : List ℕ) (i : ℕ) (calls : List ℕ) → length (noted-at s j i calls) ≡ length calls
+length-noted s j i calls = by (eqb (getD j (3 * i + 1) 0) 0)
   where
-    -- where a run from move i on ends
-    pub record Ends (r : Run) : Type 0 where
-      pub reached : G (r .made) (r .state)
+    k : ℕ
+    k = processor-of s (getD j (3 * i) 0) .current
+
+    by : (b : Bool) → length (choose b calls (noted calls k)) ≡ length calls
+    by true = refl
+    by false = length-set calls k (up-to 65535 (getD calls k 0))
+
+-- a list of counts keeps its length
+pub length-counted : (j : List ℕ) (n i : ℕ) (s : State) (calls : List ℕ) → length (counted-from j n i s calls) ≡ length calls
+unfolding counted-from
+length-counted j zero i s calls = refl
+length-counted j (suc n) i s calls =
+    by (eqb (moved-at s j i .refusal) 0) (length-counted j n (i + 1) (moved-at s j i .state) (noted-at s j i calls) ∙ length-noted s j i calls)
+  where
+    rest : List ℕ
+    rest = counted-from j n (i + 1) (moved-at s j i .state) (noted-at s j i calls)
+
+    by : (b : Bool) → length rest ≡ length calls → length (choose b rest calls) ≡ length calls
+    by true e = e
+    by false e = refl
+
+-- what each accepted move keeps, all moves keep: to the end, or to the first refused move
+module _ (j : List ℕ) (G : ℕ → State → List ℕ → Type 0) (last : ℕ)
+    (more :
+    (i : ℕ) (s : State) (calls : List ℕ) → G i s calls → i < last → moved-at s j i .refusal ≡ 0 →
+    G (i + 1) (moved-at s j i .state) (noted-at s j i calls))
+  where
+    -- where a run from move i on ends, and the calls that it has counted
+    pub record Ends (r : Run) (calls : List ℕ) : Type 0 where
+      pub reached : G (r .made) (r .state) calls
       pub whole : r .refusal ≡ 0 → r .made ≡ last
       pub part : (r .refusal ≡ 0 → ⊥) → r .made < last
       pub cause : (r .refusal ≡ 0 → ⊥) →
           r .refusal ≡ moved-at (r .state) j (r .made) .refusal
 
-    pub run-ends : (n i : ℕ) (s : State) → G i s → i + n ≡ last → Ends (run-from j n i s)
-    unfolding run-from
-    run-ends zero i s g e = record { reached = g; whole = λ z. omega arith; part = λ z. absurd (z refl); cause = λ z. absurd (z refl) }
-    run-ends (suc n) i s g e =
-        by (eqb (here .refusal) 0) refl (λ k. run-ends n (i + 1) (here .state) k (omega arith))
+    pub run-ends : (n i : ℕ) (s : State) (calls : List ℕ) → G i s calls → i + n ≡ last → Ends (run-from j n i s) (counted-from j n i s calls)
+    unfolding run-from counted-from
+    run-ends zero i s calls g e = record { reached = g; whole = λ z. omega arith; part = λ z. absurd (z refl); cause = λ z. absurd (z refl) }
+    run-ends (suc n) i s calls g e =
+        by (eqb (here .refusal) 0) refl (λ k. run-ends n (i + 1) (here .state) (noted-at s j i calls) k (omega arith))
       where
         here : Moved
         here = moved-at s j i
 
-        by : (b : Bool) → eqb (here .refusal) 0 ≡ b → (G (i + 1) (here .state) → Ends (run-from j n (i + 1) (here .state))) →
-            Ends (choose b (run-from j n (i + 1) (here .state)) (ran (here .refusal) i s))
-        by true t rest = rest (more i s g (omega arith) (eqb-true (here .refusal) 0 t))
-        by false t rest = record { reached = g; whole = λ z. absurd (eqb-false (here .refusal) 0 t z); part = λ z. omega arith; cause = λ z. refl }
+        rest : Run
+        rest = run-from j n (i + 1) (here .state)
+
+        counts : List ℕ
+        counts = counted-from j n (i + 1) (here .state) (noted-at s j i calls)
+
+        by : (b : Bool) → eqb (here .refusal) 0 ≡ b → (G (i + 1) (here .state) (noted-at s j i calls) → Ends rest counts) →
+            Ends (choose b rest (ran (here .refusal) i s)) (choose b counts calls)
+        by true t on = on (more i s calls g (omega arith) (eqb-true (here .refusal) 0 t))
+        by false t on = record { reached = g; whole = λ z. absurd (eqb-false (here .refusal) 0 t z); part = λ z. omega arith; cause = λ z. refl }
 
 -- one move by itself
 pub moved-is : (s : State) (p a o : ℕ) →
@@ -157,9 +207,9 @@ moved-is s p a o = by (eqb (refusal-of s p a o) 0) refl
     by true e = ap (λ (n : ℕ). record { refusal = n; state = stepped-of s p a o }) (sym (eqb-true (refusal-of s p a o) 0 e))
     by false e = refl
 
--- ---- the code's run, after i moves: s has the count of moves applied, the other parts are apart
+-- ---- the code's run, after i moves: s has the count of moves applied, the other parts are apart; first: the calls before the run
 
-pub record Running (start : State) (j : List ℕ) (i : ℕ) (s : State) (f b : List ℕ) (ps : List Processor) (xs : List Mutex) : Type 0 where
+pub record Running (start : State) (j first : List ℕ) (i : ℕ) (s : State) (calls f b : List ℕ) (ps : List Processor) (xs : List Mutex) : Type 0 where
   pub threads : List Thread
   pub bytes : b ≡ bytes-of threads
   pub firsts-size : length f ≡ 9
@@ -167,10 +217,11 @@ pub record Running (start : State) (j : List ℕ) (i : ℕ) (s : State) (f b : L
   pub processors-size : length ps ≡ 9
   pub mutexes-size : length xs ≡ 9
   pub left : run-from j (length j / 3 - i) i (gathered-of s f threads ps xs (s .applied)) ≡ run-of start j
+  pub uncounted : counted-from j (length j / 3 - i) i (gathered-of s f threads ps xs (s .applied)) calls ≡ counted-of start j first
 
-pub running-start : (start : State) (j b : List ℕ) → Sized start → b ≡ bytes-of (start .chains .threads) →
-    Running start j 0 start (start .chains .firsts) b (start .processors) (start .mutexes)
-running-start start j b size e =
+pub running-start : (start : State) (j first b : List ℕ) → Sized start → b ≡ bytes-of (start .chains .threads) →
+    Running start j first 0 start first (start .chains .firsts) b (start .processors) (start .mutexes)
+running-start start j first b size e =
     let z : length j / 3 - 0 ≡ length j / 3 = omega arith in
     record {
       threads = start .chains .threads;
@@ -180,9 +231,11 @@ running-start start j b size e =
       processors-size = size .processors;
       mutexes-size = size .mutexes;
       left = rw z;
+      uncounted = rw z;
     }
 
-module _ (start : State) (j : List ℕ) (i : ℕ) (s : State) (f b : List ℕ) (ps : List Processor) (xs : List Mutex) (g : Running start j i s f b ps xs) where
+module _ (start : State) (j first : List ℕ) (i : ℕ) (s : State) (calls f b : List ℕ) (ps : List Processor) (xs : List Mutex)
+    (g : Running start j first i s calls f b ps xs) where
   -- the record whose parts these are
   abbrev pub record-of : State
   record-of = gathered-of s f (g .threads) ps xs (s .applied)
@@ -190,9 +243,14 @@ module _ (start : State) (j : List ℕ) (i : ℕ) (s : State) (f b : List ℕ) (
   pub bytes-size : length b ≡ 99
   bytes-size = omega (arith, ap length (g .bytes), bytes-length (g .threads), g .threads-size)
 
-  pub running-end : i ≡ length j / 3 → ran 0 i record-of ≡ run-of start j
-  running-end e =
-      sym (run-end j i record-of) ∙ ap (λ (n : ℕ). run-from j (n - i) i record-of) e ∙ g .left
+  pub calls-size : length calls ≡ length first
+  calls-size = sym (length-counted j _ i record-of calls) ∙ ap length (g .uncounted) ∙ length-counted j _ 0 start first
+
+  pub running-end : i ≡ length j / 3 → (ran 0 i record-of ≡ run-of start j) × (calls ≡ counted-of start j first)
+  running-end e = (
+    sym (run-end j i record-of) ∙ ap (λ (n : ℕ). run-from j (n - i) i record-of) e ∙ g .left,
+    sym (counted-end j i record-of calls) ∙ ap (λ (n : ℕ). counted-from j (n - i) i record-of calls) e ∙ g .uncounted,
+  )
 
   module _ (h : i < length j / 3) where
     abbrev p : ℕ
@@ -216,12 +274,16 @@ module _ (start : State) (j : List ℕ) (i : ℕ) (s : State) (f b : List ℕ) (
       pub caused : (k : ℕ) → k ≡ refusal-seen (sizes-of s) v (getD b (3 * o) 0) a o → k ≡ refusal-of record-of p a o
       caused k e = e ∙ rw (sees, g .bytes, bytes-status (g .threads) o) (refusal-is record-of p a o)
 
-      pub running-stop : (k : ℕ) → k ≡ refusal-seen (sizes-of s) v (getD b (3 * o) 0) a o → (k ≡ 0 → ⊥) → ran k i record-of ≡ run-of start j
-      running-stop k e z =
-          ap (λ (n : ℕ). ran n i record-of) (caused k e) ∙ sym (run-stop j (length j / 3) i record-of h (λ q. z (caused k e ∙ q))) ∙ g .left
+      pub running-stop : (k : ℕ) → k ≡ refusal-seen (sizes-of s) v (getD b (3 * o) 0) a o → (k ≡ 0 → ⊥) →
+          (ran k i record-of ≡ run-of start j) × (calls ≡ counted-of start j first)
+      running-stop k e z = (
+        ap (λ (n : ℕ). ran n i record-of) (caused k e) ∙ sym (run-stop j (length j / 3) i record-of h (λ q. z (caused k e ∙ q))) ∙ g .left,
+        sym (counted-stop j (length j / 3) i record-of h calls (λ q. z (caused k e ∙ q))) ∙ g .uncounted,
+      )
 
       module _ (k : ℕ) (k-is : k ≡ refusal-seen (sizes-of s) v (getD b (3 * o) 0) a o) (z : k ≡ 0) (e : Effect) (e-is : e ≡ act-effect a o v)
-          (n : State) (f' b' : List ℕ) (ps' : List Processor) (xs' : List Mutex) (n-is : n ≡ with-applied (up-to 65535 (s .applied)) s)
+          (n : State) (calls' f' b' : List ℕ) (ps' : List Processor) (xs' : List Mutex) (n-is : n ≡ with-applied (up-to 65535 (s .applied)) s)
+          (calls-is : calls' ≡ choose (eqb a 0) calls (noted calls (r .current)))
           (f-is : f' ≡ carried-firsts f (e .transfer)) (b-is : b' ≡ carried-threads f b p (e .transfer)) (ps-is : ps' ≡ set ps p (e .proc))
           (xs-is : xs' ≡ set xs m (e .mutex)) where
         abbrev threads-after : Effect → List Thread
@@ -242,7 +304,10 @@ module _ (start : State) (j : List ℕ) (i : ℕ) (s : State) (f b : List ℕ) (
         bytes-more : b' ≡ bytes-of (threads-after e)
         bytes-more = b-is ∙ ap (λ (l : List ℕ). carried-threads f l p (e .transfer)) (g .bytes) ∙ carried-bytes (record-of .chains) p (e .transfer)
 
-        pub running-more : Running start j (i + 1) n f' b' ps' xs'
+        notes : calls' ≡ noted-at record-of j i calls
+        notes = calls-is ∙ ap (λ (q : Processor). choose (eqb a 0) calls (noted calls (q .current))) r-is
+
+        pub running-more : Running start j first (i + 1) n calls' f' b' ps' xs'
         running-more =
             record {
               threads = threads-after e;
@@ -256,4 +321,9 @@ module _ (start : State) (j : List ℕ) (i : ℕ) (s : State) (f b : List ℕ) (
                   ap (run-from j (length j / 3 - (i + 1)) (i + 1)) (gathers ∙ makes) ∙
                   sym (run-more j (length j / 3) i record-of h (sym (caused k k-is) ∙ z)) ∙
                   g .left;
+              uncounted =
+                  ap (λ (q : State). counted-from j (length j / 3 - (i + 1)) (i + 1) q calls') (gathers ∙ makes) ∙
+                  ap (counted-from j (length j / 3 - (i + 1)) (i + 1) (stepped-of record-of p a o)) notes ∙
+                  sym (counted-more j (length j / 3) i record-of h calls (sym (caused k k-is) ∙ z)) ∙
+                  g .uncounted;
             }

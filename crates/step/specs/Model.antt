@@ -369,3 +369,22 @@ run-from j (suc n) i s = choose (eqb (moved-at s j i .refusal) 0) (run-from j n 
 
 abbrev pub run-of : State → List ℕ → Run
 run-of s j = run-from j (length j / 3) 0 s
+
+-- ---- the calls that each thread makes in such a run
+
+-- one more call of thread k
+abbrev pub noted : List ℕ → ℕ → List ℕ
+noted calls k = set calls k (up-to 65535 (getD calls k 0))
+
+-- the calls with move i + 1 of a list of bytes, made in s: an action other than 0 is a call of its processor's current thread
+abbrev pub noted-at : State → List ℕ → ℕ → List ℕ → List ℕ
+noted-at s j i calls = choose (eqb (getD j (3 * i + 1) 0) 0) calls (noted calls (processor-of s (getD j (3 * i) 0) .current))
+
+-- the calls of the moves that a run makes, from move i + 1 on
+unfoldable pub counted-from : List ℕ → ℕ → ℕ → State → List ℕ → List ℕ
+counted-from j zero i s calls = calls
+counted-from j (suc n) i s calls =
+    choose (eqb (moved-at s j i .refusal) 0) (counted-from j n (i + 1) (moved-at s j i .state) (noted-at s j i calls)) calls
+
+abbrev pub counted-of : State → List ℕ → List ℕ → List ℕ
+counted-of s j calls = counted-from j (length j / 3) 0 s calls

@@ -1,6 +1,7 @@
 // The machine's lines and calls as small functions, the causes for refusing a move, and one function for a whole move.
 pub mod breaks;
 pub mod call;
+pub mod calls;
 pub mod cause;
 pub mod line;
 pub mod lock;

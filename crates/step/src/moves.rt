@@ -2,13 +2,14 @@
 ghost use mathlib.Core.Path.{_≡_};
 ghost use Rattle.reference.specs.Lists.{tabulate};
 ghost use Rattle.state.specs.Model.{thread-from};
-ghost use Rattle.step.specs.Model.{target-of, seen-of, carried-firsts, carried-threads, gathered-of, ran, run-of, moved-of};
+ghost use Rattle.step.specs.Model.{target-of, seen-of, carried-firsts, carried-threads, gathered-of, ran, run-of, counted-of, moved-of};
 use crate::Moved;
 use crate::Run;
 use crate::Sizes;
 use crate::Status;
 use crate::Transfer;
 use crate::View;
+use crate::calls::note_move;
 use crate::cause::cause;
 use crate::cause::in_range;
 use crate::cause::sizes;
@@ -118,8 +119,10 @@ fn ended(
 }
 
 // Makes moves, three bytes each, in order on one record that is changed in place, until one is refused. Bytes left over are no move.
-pub fn run(mut s: State, moves: &[u8]) -> Run
-    ensures { λ r. ⌜ r ≡ run-of s (now (moves .entry)) ⌝ }
+// The calls among the moves made are counted for each thread.
+pub fn run(mut s: State, moves: &[u8], calls: &mut [u16]) -> Run
+    ensures state { λ r. ⌜ r ≡ run-of s (now (moves .entry)) ⌝ }
+    ensures calls { λ r. ⌜ now (calls .exit) ≡ counted-of s (now (moves .entry)) (now (calls .entry)) ⌝ }
 {
     let chains = s.chains;
     let threads = chains.threads;
@@ -129,9 +132,8 @@ pub fn run(mut s: State, moves: &[u8]) -> Run
     let mut mutexes = s.mutexes;
     let nobody = Processor::zero();
     let free = Mutex::zero();
-    let n = moves.len() / 3;
     let mut made: usize = 0;
-    while made < n {
+    while made < moves.len() / 3 {
         let at = 3 * made;
         let p = moves[at];
         let action = moves[at + 1];
@@ -147,6 +149,7 @@ pub fn run(mut s: State, moves: &[u8]) -> Run
         if refusal != 0 {
             return ended(refusal, made, s, firsts, &bytes, processors, mutexes);
         }
+        note_move(calls, action, r.current);
         let e = act(action, operand, v);
         let transfer = e.transfer;
         carry(&mut firsts, &mut bytes, p, transfer);
@@ -167,7 +170,8 @@ pub fn moved(s: State, p: u8, action: u8, operand: u8) -> Moved
     ensures { λ r. ⌜ r ≡ moved-of s p action operand ⌝ }
 {
     let bytes = [p, action, operand];
-    let done = run(s, &bytes);
+    let mut none = [0u16; 1];
+    let done = run(s, &bytes, &mut none);
     let state = done.state;
     Moved {
         refusal: done.refusal,

@@ -14,7 +14,8 @@ use Rattle.state.specs.Association.{decode}
 use Rattle.reference.specs.Snapshot.{picture}
 use Rattle.snapshot.specs.Snapshot.{write-refusal}
 use Rattle.session.specs.declared.Answer.{Answer}
-use Rattle.session.specs.Contract.{table, move-of, started, moved, journal-after, undone}
+use Rattle.reference.specs.Step.{move-of}
+use Rattle.session.specs.Contract.{table, started, moved, journal-after, undone}
 
 -- begun: a start has been accepted; its session, and the journal
 pub record Talk : Type 0 where

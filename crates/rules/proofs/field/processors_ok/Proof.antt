@@ -7,8 +7,9 @@ use native.Mathlib.Omega.{arith}
 use borrow.Author.Needs.{needs}
 use lib.ListN.{length}
 use Rattle.state.specs.Record.{zero-processor, processor-in}
-use Rattle.state.specs.Rules.{each, processor-ok}
-use Rattle.rules.proofs.Each.{each-none, each-next, each-end}
+use Rattle.state.specs.Rules.{processor-ok}
+use Rattle.reference.specs.Lists.{each}
+use Rattle.reference.proofs.Each.{each-none, each-next, each-end}
 use Rattle.rules.proofs.Past.{read-past}
 use Rattle.rules.proofs.field.processors_ok.Statement.{statement}
 use Rattle.rules.proofs.field.processors_ok.Tie as tie

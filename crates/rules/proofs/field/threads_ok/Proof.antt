@@ -7,9 +7,10 @@ use native.Mathlib.Omega.{arith}
 use borrow.Author.Needs.{needs}
 use lib.ListN.{length}
 use Rattle.state.specs.Record.{zero-thread, thread-in}
-use Rattle.state.specs.Rules.{each, thread-ok}
+use Rattle.state.specs.Rules.{thread-ok}
+use Rattle.reference.specs.Lists.{each}
 use Rattle.rules.proofs.Past.{read-past}
-use Rattle.rules.proofs.Each.{each-none, each-next, each-end}
+use Rattle.reference.proofs.Each.{each-none, each-next, each-end}
 use Rattle.rules.proofs.field.threads_ok.Statement.{statement}
 use Rattle.rules.proofs.field.threads_ok.Tie as tie
 

@@ -6,10 +6,10 @@ use mathlib.Core.Path.{_≡_, sym, _∙_}
 use native.Mathlib.Omega.{arith}
 use borrow.Author.Needs.{needs}
 use lib.ListN.{length}
-use Rattle.state.specs.Rules.{each}
+use Rattle.reference.specs.Lists.{each}
 use Rattle.state.specs.Record.{zero-thread, zero-processor, thread-in, processor-in}
 use Rattle.rules.specs.Holder.{thread-held}
-use Rattle.rules.proofs.Each.{each-none, each-next, each-end}
+use Rattle.reference.proofs.Each.{each-none, each-next, each-end}
 use Rattle.rules.proofs.Past.{read-past}
 use Rattle.rules.proofs.holder.threads_match.Statement.{statement}
 use Rattle.rules.proofs.holder.threads_match.Tie as tie

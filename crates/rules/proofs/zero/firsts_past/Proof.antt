@@ -7,8 +7,8 @@ use native.Mathlib.Omega.{arith}
 use borrow.Author.Needs.{needs}
 use lib.ListN.{getD}
 use lib.Dec.{eqb, leb}
-use Rattle.state.specs.Rules.{each}
-use Rattle.rules.proofs.Each.{each-none, each-next₀, each-end}
+use Rattle.reference.specs.Lists.{each}
+use Rattle.reference.proofs.Each.{each-none, each-next₀, each-end}
 use Rattle.rules.proofs.zero.firsts_past.Statement.{statement}
 use Rattle.rules.proofs.zero.firsts_past.Tie as tie
 

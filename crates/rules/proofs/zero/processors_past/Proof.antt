@@ -5,8 +5,9 @@ use mathlib.Core.Path.{_≡_, sym}
 use native.Mathlib.Omega.{arith}
 use borrow.Author.Needs.{needs}
 use Rattle.state.specs.Record.{processor-in}
-use Rattle.state.specs.Rules.{each, within-or, zero-processor?}
-use Rattle.rules.proofs.Each.{each-none, each-next₀, each-end}
+use Rattle.state.specs.Rules.{within-or, zero-processor?}
+use Rattle.reference.specs.Lists.{each}
+use Rattle.reference.proofs.Each.{each-none, each-next₀, each-end}
 use Rattle.rules.proofs.zero.processors_past.Statement.{statement}
 use Rattle.rules.proofs.zero.processors_past.Tie as tie
 

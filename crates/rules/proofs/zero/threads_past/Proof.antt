@@ -5,8 +5,9 @@ use mathlib.Core.Path.{_≡_, sym}
 use native.Mathlib.Omega.{arith}
 use borrow.Author.Needs.{needs}
 use Rattle.state.specs.Record.{thread-in}
-use Rattle.state.specs.Rules.{each, within-or, zero-thread?}
-use Rattle.rules.proofs.Each.{each-none, each-next₀, each-end}
+use Rattle.state.specs.Rules.{within-or, zero-thread?}
+use Rattle.reference.specs.Lists.{each}
+use Rattle.reference.proofs.Each.{each-none, each-next₀, each-end}
 use Rattle.rules.proofs.zero.threads_past.Statement.{statement}
 use Rattle.rules.proofs.zero.threads_past.Tie as tie
 

@@ -11,16 +11,20 @@ use Rattle.session.proofs.replay.replay.Tie as tie
 
 slice-aggregate-run : tie.Need-slice-aggregate-run
 slice-aggregate-run c =
-    let t = c .before .before .before in
+    let t = c .before .before .before .before in
     omega (arith, length-take (3 * t .args .n) (t .args .journal .now), t .pre .1)
 
 returns : tie.Need-returns
 returns c =
-    let t = c .before .before .before .before .before .before in
-    let a = t .args in
-    let s = c .before .before .before .before .start in
-    rw (c .before .before .run .ensures)
-    (replayed (table (a .p) (a .t) (a .m) (a .b)) (t .pre .0) (a .n) (a .journal .now) (t .pre .1) (s .result) (s .ensures))
+    let ran = c .before .before .before .before .run in
+    let s = c .before .before .before .before .before .before .before .start in
+    let t = c .before .before .before .before .before .before .before .before .before .before in
+    let a = t .args in (
+      rw (ran .ensures .0) (replayed (table (a .p) (a .t) (a .m) (a .b)) (t .pre .0) (a .n) (a .journal .now) (t .pre .1) (s .result) (s .ensures)),
+      rw (ran .ensures .1, s .ensures),
+    )
 
 pub replay-spec : {M : Type 1} → statement M
-replay-spec = tie.close (tie.spec (λ c κs. search needs) (λ c. search needs) slice-aggregate-run (λ c κs. search needs) returns)
+replay-spec =
+    tie.close
+    (tie.spec (λ c κs. search needs) (λ c. search needs) slice-aggregate-run (λ c κs. search needs) (λ c. search needs) returns)

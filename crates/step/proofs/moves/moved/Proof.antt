@@ -9,8 +9,8 @@ use Rattle.step.proofs.moves.moved.Tie as tie
 
 returns : tie.Need-returns
 returns c =
-    let a = c .before .before .before .args in
-    ap (λ (r : Run). record { refusal = r .refusal; state = r .state }) (c .before .run .ensures) ∙ moved-is (a .s) (a .p) (a .action) (a .operand)
+    let a = c .before .before .before .before .before .args in
+    ap (λ (r : Run). record { refusal = r .refusal; state = r .state }) (c .before .before .run .ensures .0) ∙ moved-is (a .s) (a .p) (a .action) (a .operand)
 
 pub moved-spec : {M : Type 1} → statement M
-moved-spec = tie.close (tie.spec (λ c. search needs) (λ c κs. search needs) returns)
+moved-spec = tie.close (tie.spec (λ c. search needs) (λ c. search needs) (λ c κs. search needs) returns)

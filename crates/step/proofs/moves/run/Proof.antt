@@ -18,16 +18,16 @@ use Rattle.state.proofs.Bytes.{threads-back}
 use Rattle.state.proofs.Past.{read-past, write-past}
 use Rattle.state.proofs.Sized.{sized}
 use Rattle.step.specs.Model.{gathered-of, ran, sizes-of, refusal-seen}
-use Rattle.step.proofs.InPlace.{Running, running-start, running-stop, running-more, running-end, bytes-size}
+use Rattle.step.proofs.InPlace.{Running, running-start, running-stop, running-more, running-end, bytes-size, calls-size}
 use Rattle.step.proofs.moves.run.Statement.{statement}
 use Rattle.step.proofs.moves.run.Tie as tie
 
 abbrev Inv-loop : tie.InvT-loop
-Inv-loop s₀ moves firsts₀ bytes₀ processors₀ mutexes₀ nobody free n made₀ s firsts bytes processors mutexes made =
-    (made ≤ n) × (n ≡ length moves / 3) × Running s₀ moves made s firsts bytes processors mutexes
+Inv-loop s₀ moves calls₀ firsts₀ bytes₀ processors₀ mutexes₀ nobody free made₀ s calls firsts bytes processors mutexes made =
+    (made ≤ length moves / 3) × Running s₀ moves calls₀ made s calls firsts bytes processors mutexes
 
 abbrev μ-loop : tie.MeasureT-loop
-μ-loop s₀ moves firsts₀ bytes₀ processors₀ mutexes₀ nobody free n made₀ s firsts bytes processors mutexes made = n - made
+μ-loop s₀ moves calls₀ firsts₀ bytes₀ processors₀ mutexes₀ nobody free made₀ s calls firsts bytes processors mutexes made = length moves / 3 - made
 
 -- a fact on both ways that meet
 either : {A B C : Type 0} → (A → C) → (B → C) → A ⊎ B → C
@@ -42,9 +42,9 @@ back s f b ps xs ts e n =
 
 loop-holds : tie.Need-loop-holds Inv-loop μ-loop
 loop-holds c =
-    let t = c .before .before .before .before .before .before .before .before .before in
+    let t = c .before .before .before .before .before .before .before .before .before .before in
     let b = c .before .before .before .before .bytes-of in
-    (omega arith, refl, running-start (t .args .s) (t .args .moves .now) (b .result) (sized (t .good .0)) (b .ensures))
+    (omega arith, running-start (t .args .s) (t .args .moves .now) (t .args .calls .now) (b .result) (sized (t .good .0)) (b .ensures))
 
 returns : tie.Need-returns Inv-loop μ-loop
 returns c =
@@ -55,15 +55,15 @@ returns c =
     let proc = target .before in
     let test = proc .before .before .before .before .before in
     let zero = test .before .before in
-    let t = zero .before .before .before .before .before .before .before .before .before in
+    let t = zero .before .before .before .before .before .before .before .before .before .before in
     let l = test .before .loop in
-    let g = l .inv .2 in
+    let g = l .inv .1 in
     let j = t .args .moves .now in
     let p = getD j (3 * l .made) 0 in
     let a = getD j (3 * l .made + 1) 0 in
     let o = getD j (3 * l .made + 2) 0 in
     let m = target .target .result in
-    let h : l .made < length j / 3 = omega (arith, test .loop-test .taken, l .inv .1) in
+    let h : l .made < length j / 3 = omega (arith, test .loop-test .taken) in
     let r : proc .by-fields .result ≡ processor-in (l .processors) p =
     proc .by-fields .ensures ∙
     either (λ w. w .2) (λ w. w .1 ∙ zero .before .zero .ensures ∙ read-past (l .processors) 9 p (g .processors-size) (w .0 .left) zero-processor)
@@ -77,29 +77,34 @@ returns c =
     let q : cause .cause .result ≡ refusal-seen (sizes-of (l .s)) (look .look .result) (getD (l .bytes) (3 * o) 0) a o =
     cause .cause .ensures ∙ rw (cause .before .before .before .sizes .ensures, cause .before .status-in .ensures)
     in
-    c .ended .ensures ∙
-    ap (ran (cause .cause .result) (l .made)) (back (l .s) (l .firsts) (l .bytes) (l .processors) (l .mutexes) (g .threads) (g .bytes) (g .threads-size)) ∙
-    running-stop (t .args .s) j (l .made) (l .s) (l .firsts) (l .bytes) (l .processors) (l .mutexes) g h
+    let stop = running-stop (t .args .s) j (t .args .calls .now) (l .made) (l .s) (l .calls) (l .firsts) (l .bytes) (l .processors) (l .mutexes) g h
     (proc .by-fields .result) m (mutex .mutex-by-fields .result) (look .look .result) r (target .target .ensures) x (look .look .ensures) (cause .cause .result) q (c .before .before .if3 .taken)
+    in (
+      c .ended .ensures ∙
+          ap (ran (cause .cause .result) (l .made)) (back (l .s) (l .firsts) (l .bytes) (l .processors) (l .mutexes) (g .threads) (g .bytes) (g .threads-size)) ∙
+          stop .0,
+      stop .1,
+    )
 
 loop-again : tie.Need-loop-again Inv-loop μ-loop
 loop-again c =
-    let cause = c .before .before .before .before .before .before .before .before .before .before in
+    let refused = c .before .before .before .before .before .before .before .before .before .before .before .before .before in
+    let cause = refused .before in
     let look = cause .before .before .before .before in
     let mutex = look .before .before .before in
     let target = mutex .before .before in
     let proc = target .before in
     let test = proc .before .before .before .before .before in
     let zero = test .before .before in
-    let t = zero .before .before .before .before .before .before .before .before .before in
+    let t = zero .before .before .before .before .before .before .before .before .before .before in
     let l = test .before .loop in
-    let g = l .inv .2 in
+    let g = l .inv .1 in
     let j = t .args .moves .now in
     let p = getD j (3 * l .made) 0 in
     let a = getD j (3 * l .made + 1) 0 in
     let o = getD j (3 * l .made + 2) 0 in
     let m = target .target .result in
-    let h : l .made < length j / 3 = omega (arith, test .loop-test .taken, l .inv .1) in
+    let h : l .made < length j / 3 = omega (arith, test .loop-test .taken) in
     let r : proc .by-fields .result ≡ processor-in (l .processors) p =
     proc .by-fields .ensures ∙
     either (λ w. w .2) (λ w. w .1 ∙ zero .before .zero .ensures ∙ read-past (l .processors) 9 p (g .processors-size) (w .0 .left) zero-processor)
@@ -114,6 +119,7 @@ loop-again c =
     cause .cause .ensures ∙ rw (cause .before .before .before .sizes .ensures, cause .before .status-in .ensures)
     in
     let e = c .before .before .before .before .before .before .before .before .act in
+    let noting = c .before .before .before .before .before .before .before .before .before .before .before .note-move in
     let carried = c .before .before .before .before .before .carry in
     let xs : c .before .before .if4 .mutexes ≡ set (l .mutexes) m (e .result .mutex) =
     either (λ w. w .3 ∙ ap (set (l .mutexes) m) (w .2 .ensures))
@@ -124,21 +130,24 @@ loop-again c =
     (λ w. w .1 ∙ write-past (l .processors) 9 p (g .processors-size) (w .0 .left) (e .result .proc)) (c .before .if5 .came)
     in (
       omega (arith, test .loop-test .taken),
-      l .inv .1,
-      running-more (t .args .s) j (l .made) (l .s) (l .firsts) (l .bytes) (l .processors) (l .mutexes) g h
+      running-more (t .args .s) j (t .args .calls .now) (l .made) (l .s) (l .calls) (l .firsts) (l .bytes) (l .processors) (l .mutexes) g h
           (proc .by-fields .result) m (mutex .mutex-by-fields .result) (look .look .result) r (target .target .ensures) x (look .look .ensures) (cause .cause .result) q
-          (c .before .before .before .before .before .before .before .before .before .if3 .left) (e .result) (e .ensures) _ (carried .last .0) (carried .last .1 .0)
-          (c .before .if5 .processors) (c .before .before .if4 .mutexes) (rw (c .up-wide .ensures)) (carried .ensures .0) (carried .ensures .1) ps xs,
+          (refused .if3 .left) (e .result) (e .ensures) _ (noting .last .0) (carried .last .0) (carried .last .1 .0)
+          (c .before .if5 .processors) (c .before .before .if4 .mutexes) (rw (c .up-wide .ensures)) (noting .ensures) (carried .ensures .0) (carried .ensures .1) ps xs,
     )
 
 returns-2 : tie.Need-returns-2 Inv-loop μ-loop
 returns-2 c =
-    let t = c .before .before .before .before .before .before .before .before .before .before .before .before .before in
+    let t = c .before .before .before .before .before .before .before .before .before .before .before .before .before .before in
     let l = c .before .before .before .loop in
-    let g = l .inv .2 in
-    c .ended2 .ensures ∙
-    ap (ran 0 (l .made)) (back (l .s) (l .firsts) (l .bytes) (l .processors) (l .mutexes) (g .threads) (g .bytes) (g .threads-size)) ∙
-    running-end (t .args .s) (t .args .moves .now) (l .made) (l .s) (l .firsts) (l .bytes) (l .processors) (l .mutexes) g (omega arith)
+    let g = l .inv .1 in
+    let end = running-end (t .args .s) (t .args .moves .now) (t .args .calls .now) (l .made) (l .s) (l .calls) (l .firsts) (l .bytes) (l .processors) (l .mutexes) g (omega arith)
+    in (
+      c .ended2 .ensures ∙
+          ap (ran 0 (l .made)) (back (l .s) (l .firsts) (l .bytes) (l .processors) (l .mutexes) (g .threads) (g .bytes) (g .threads-size)) ∙
+          end .0,
+      end .1,
+    )
 
 pub run-spec : {M : Type 1} → statement M
 run-spec =
@@ -165,19 +174,21 @@ run-spec =
     (λ c. search needs)
     (λ c. search needs)
     (λ c κs. search needs)
-    (λ c. omega (arith, c .before .before .before .before .before .before .before .before .before .before .loop .inv .2 .firsts-size))
-    (λ c. omega (arith, bytes-size _ _ _ _ _ _ _ _ (c .before .before .before .before .before .before .before .before .before .before .before .loop .inv .2)))
+    (λ c. omega (arith, c .before .before .before .before .before .before .before .before .before .before .loop .inv .1 .firsts-size))
+    (λ c. omega (arith, bytes-size _ _ _ _ _ _ _ _ _ _ (c .before .before .before .before .before .before .before .before .before .before .before .loop .inv .1)))
     (λ c κs. search needs)
     (λ c κs. search needs)
-    (λ c. omega (arith, bytes-size _ _ _ _ _ _ _ _ (c .before .before .before .before .before .before .before .before .before .before .before .before .before .before .loop .inv .2)))
+    (λ c. omega (arith, bytes-size _ _ _ _ _ _ _ _ _ _ (c .before .before .before .before .before .before .before .before .before .before .before .before .before .before .loop .inv .1)))
     (λ c κs. search needs)
     (λ c κs. search needs)
-    (λ c. omega (arith, bytes-size _ _ _ _ _ _ _ _ (c .before .before .before .before .before .before .before .before .before .before .before .before .before .before .before .before .before .before .loop .inv .2)))
+    (λ c. omega (arith, bytes-size _ _ _ _ _ _ _ _ _ _ (c .before .before .before .before .before .before .before .before .before .before .before .before .before .before .before .before .before .before .loop .inv .1)))
     (λ c κs. search needs)
+    (λ c. calls-size _ _ _ _ _ _ _ _ _ _ (c .before .before .before .before .before .before .before .before .before .before .before .before .before .before .before .before .before .before .before .loop .inv .1))
     returns
     (λ c κs. search needs)
-    (λ c. omega (arith, c .before .before .before .before .before .before .before .before .before .before .before .before .before .before .before .before .before .before .before .loop .inv .2 .firsts-size))
-    (λ c. omega (arith, bytes-size _ _ _ _ _ _ _ _ (c .before .before .before .before .before .before .before .before .before .before .before .before .before .before .before .before .before .before .before .before .loop .inv .2)))
+    (λ c κs. search needs)
+    (λ c. omega (arith, c .before .before .before .before .before .before .before .before .before .before .before .before .before .before .before .before .before .before .before .before .before .before .before .loop .inv .1 .firsts-size))
+    (λ c. omega (arith, bytes-size _ _ _ _ _ _ _ _ _ _ (c .before .before .before .before .before .before .before .before .before .before .before .before .before .before .before .before .before .before .before .before .before .before .before .before .loop .inv .1)))
     (λ c κs. search needs)
     (λ c κs. search needs)
     (λ c. search needs)
@@ -186,9 +197,10 @@ run-spec =
     (λ c. search needs)
     (λ c. search needs)
     (λ c κs. search needs)
-    (λ c. let l = c .before .before .before .before .before .before .before .before .before .before .before .before .before .before .before .before .before .before .before .before .before .before .before .before .before in omega (arith, l .loop-test .taken, l .before .loop .inv .1, l .before .before .before .before .before .before .before .before .before .before .before .good .1 .0))
-    (λ c. let l = c .before .before .before .before .before .before .before .before .before .before .before .before .before .before .before .before .before .before .before .before .before .before .before .before .before in omega (arith, l .loop-test .taken))
+    (λ c. let l = c .before .before .before .before .before .before .before .before .before .before .before .before .before .before .before .before .before .before .before .before .before .before .before .before .before .before .before .before .before in omega (arith, l .loop-test .taken, l .before .before .before .before .before .before .before .before .before .before .before .before .good .1 .0))
+    (λ c. let l = c .before .before .before .before .before .before .before .before .before .before .before .before .before .before .before .before .before .before .before .before .before .before .before .before .before .before .before .before .before in omega (arith, l .loop-test .taken))
     loop-again
-    (λ c. omega (arith, bytes-size _ _ _ _ _ _ _ _ (c .before .before .loop .inv .2)))
+    (λ c. omega (arith, bytes-size _ _ _ _ _ _ _ _ _ _ (c .before .before .loop .inv .1)))
     (λ c κs. search needs)
+    (λ c. calls-size _ _ _ _ _ _ _ _ _ _ (c .before .before .before .loop .inv .1))
     returns-2)

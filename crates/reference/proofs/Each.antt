@@ -6,8 +6,8 @@ use mathlib.Core.Bool.{Bool, true, false, _&&_, and-assoc}
 use native.Mathlib.Decide.{decLe}
 use native.Mathlib.Omega.{arith}
 use native.Mathlib.Numerals.{add-one}
 use Rattle.reference.proofs.Tests.{both, both-left, both-right}
-use Rattle.state.specs.Rules.{each}
+use Rattle.reference.specs.Lists.{each}
 
 module _ (test : ℕ → Bool) where
   pub each-none : (lo : ℕ) → each test lo 0 ≡ true

@@ -1,0 +1,114 @@
+-- A record and a journal that have come from the reference session: each call is answered as there, whatever is asked and lent.
+-- Assumes nothing.
+use Prim.Native.Nat.{ℕ, zero, suc}
+use mathlib.Core.Bool.{Bool, true, false, not}
+use mathlib.Core.List.{List, [], _∷_}
+use mathlib.Core.Path.{_≡_, refl, sym, ap, _∙_}
+use lib.Dec.{eqb}
+use lib.ListN.{length}
+use Rattle.state.specs.declared.Session.{Session}
+use Rattle.reference.specs.Refusal.{refuse}
+use Rattle.reference.specs.Lists.{choose, fronted}
+use Rattle.reference.specs.Start.{Config, config-cause, start}
+use Rattle.reference.specs.Step.{Move}
+use Rattle.reference.specs.Cause.{cause}
+use Rattle.reference.specs.Script.{scripts-ok, scripts-cause, progress, turn-move, class-answers, class-pictures}
+use Rattle.reference.specs.Session.{Lent, own, other, Request, move, turn, class, back, moves, short, replays, state-of, lent-length, cramped, strange, standing-in, turn-with, answer-to, reply-to}
+use Rattle.session.specs.Contract.{shown, config-of, lent-refusal, or-later, move-refusal, moved, standing, replayed, undo-refusal, undone}
+use Rattle.session.proofs.Standing.{moves-front}
+use Rattle.session.proofs.Holding.{Holds, shown-is, config-is, applied-held}
+use Rattle.session.proofs.Numbers.{or-refuse, lent-number, replayed-is, own-replays, move-number, undo-number}
+use Rattle.turns.specs.Contract.{turn-made, turn-refusal, turned, class-refusal, classed, answers-after, pictures-after}
+use Rattle.claim.specs.Demand.{lent-to, calls, reply}
+
+-- both branches alike, and a branch for each of two members
+same-choice : {A : Type 0} (b : Bool) (a : A) → a ≡ choose b a a
+same-choice true a = refl
+same-choice false a = refl
+
+two-choices : (b : Bool) (u v s t : List ℕ) → choose b u s ∷ choose b v t ∷ [] ≡ choose b (u ∷ v ∷ []) (s ∷ t ∷ [])
+two-choices true u v s t = refl
+two-choices false u v s t = refl
+
+-- a cause that was tried before is not tried again
+again : (b d : Bool) (k m n : ℕ) → refuse b k (refuse d m (refuse b k n)) ≡ refuse b k (refuse d m n)
+again true d k m n = refl
+again false d k m n = refl
+
+module _ (c : Config) (right : config-cause c ≡ 0) (ms : List Move) (r : Session) (j : List ℕ) (h : Holds c ms r j) (size : ℕ) (long : length j ≡ size) (t : Lent) where
+  abbrev lent : List ℕ
+  lent = lent-to j t
+
+  short-is : (t : Lent) → short (length (lent-to j t)) ≡ short (lent-length size t)
+  short-is own = ap short long
+  short-is (other o) = refl
+
+  standing-lent : (t : Lent) → moves (length ms) (lent-to j t) ≡ standing-in ms t
+  standing-lent own = moves-front ms j (h .whole)
+  standing-lent (other o) = refl
+
+  pub standing-is : standing r lent ≡ standing-in ms t
+  standing-is = ap (λ (k : ℕ). moves k lent) (applied-held c right ms r j h) ∙ standing-lent t
+
+  strange-is : (t : Lent) → not (replayed r (lent-to j t)) ≡ strange c ms t
+  strange-is own = ap not (own-replays c right ms r j h)
+  strange-is (other o) = ap not (replayed-is c right ms r j h o)
+
+  -- the first of the scripts' causes
+  scripts-is : (x : List ℕ) → scripts-cause (r .state .t) x ≡ scripts-cause (c .T) x
+  scripts-is x = ap (λ (d : Config). scripts-cause (d .T) x) (config-is c right ms r j h)
+
+  -- the move of a turn
+  pub made-is : (x : List ℕ) (p : ℕ) → turn-made r lent x p ≡ turn-with c ms t x p
+  made-is x p = λ i. turn-move (shown-is c right ms r j h i) (progress (start (config-is c right ms r j h i)) (standing-is i)) x p
+
+  -- behind 10, which is the only first cause
+  behind : (n m : ℕ) → n ≡ m → or-later (lent-refusal r (length lent)) n ≡ refuse (short (lent-length size t)) 10 m
+  behind n m e = lent-number c right ms r j h (length lent) n ∙ (λ i. refuse (short-is t i) 10 (e i))
+
+  turn-number : (x : List ℕ) (p : ℕ) → turn-refusal r lent x p ≡ answer-to c size ms (turn x p) t
+  unfolding turn-refusal
+  turn-number x p =
+      behind _ _
+      (ap (λ (n : ℕ). or-later n (move-refusal r lent (turn-made r lent x p))) (scripts-is x) ∙
+      or-refuse (not (scripts-ok (c .T) x)) 18 (move-refusal r lent (turn-made r lent x p)) ∙
+      ap (refuse (not (scripts-ok (c .T) x)) 19) (move-number c right ms r j h lent (turn-made r lent x p) ∙
+      (λ i. refuse (short-is t i) 10 (cause (state-of c ms) (made-is x p i))))) ∙
+      again (short (lent-length size t)) (not (scripts-ok (c .T) x)) 10 19 (cause (state-of c ms) (turn-with c ms t x p))
+
+  class-number : (x ps a b : List ℕ) → class-refusal r lent x ps a b ≡ answer-to c size ms (class x ps a b) t
+  unfolding class-refusal
+  class-number x ps a b =
+      behind _ _ (λ i. refuse (cramped (config-is c right ms r j h i) (length ps) a b) 10 (refuse (strange-is t i) 16 (scripts-is x i)))
+
+  -- the number, whatever is asked and lent
+  pub number : (q : Request) → calls r lent q .refusal ≡ answer-to c size ms q t
+  unfolding moved turned classed undone
+  number (move a) = move-number c right ms r j h lent a ∙ ap (λ (b : Bool). refuse b 10 (cause (state-of c ms) a)) (short-is t)
+  number (turn x p) = turn-number x p
+  number (class x ps a b) = class-number x ps a b
+  number back =
+      undo-number c right ms r j h lent ∙ (λ i. refuse (short-is t i) 10 (refuse (eqb (length ms) 0) 9 (refuse (strange-is t i) 16 0)))
+
+  -- and the further buffers
+  pub replies : (q : Request) → reply (calls r lent q) ≡ reply-to c size ms q t
+  unfolding answers-after pictures-after classed
+  replies (move a) = λ i. record { refusal = number (move a) i; buffers = same-choice {A = List (List ℕ)} (eqb (answer-to c size ms (move a) t) 0) [] i }
+  replies (turn x p) = λ i. record { refusal = number (turn x p) i; buffers = same-choice {A = List (List ℕ)} (eqb (answer-to c size ms (turn x p) t) 0) [] i }
+  replies back = λ i. record { refusal = number back i; buffers = same-choice {A = List (List ℕ)} (eqb (answer-to c size ms back t) 0) [] i }
+  replies (class x ps a b) =
+      let q : Request = class x ps a b in
+      let n = number q in
+      (λ i.
+      record {
+        refusal = n i;
+        buffers =
+            choose (eqb (n i) 0) (fronted a (class-answers (config-is c right ms r j h i) x (standing-is i) ps)) a ∷
+            choose (eqb (n i) 0) (fronted b (class-pictures (config-is c right ms r j h i) x (standing-is i) ps)) b ∷ [];
+      }) ∙
+      (λ i.
+      record {
+        refusal = answer-to c size ms q t;
+        buffers =
+            two-choices (eqb (answer-to c size ms q t) 0) (fronted a (class-answers c x (standing-in ms t) ps)) (fronted b (class-pictures c x (standing-in ms t) ps)) a b i;
+      })

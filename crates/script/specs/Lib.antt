@@ -1,0 +1,2 @@
+-- The move that a record of numbers stands for.
+pub mod Association

@@ -1,0 +1,67 @@
+-- A record and a journal that have come from the reference session: the numbers of a move and of a step back, whatever journal is lent.
+-- Assumes nothing.
+use Prim.Native.Nat.{ℕ, zero, suc}
+use mathlib.Core.Bool.{Bool, true, false, not}
+use mathlib.Core.List.{List}
+use mathlib.Core.Path.{_≡_, refl, sym, ap, _∙_, subst}
+use lib.Dec.{eqb}
+use lib.ListN.{length}
+use Rattle.state.specs.Rules.{session-ok}
+use Rattle.state.specs.declared.Session.{Session}
+use Rattle.reference.specs.Refusal.{refuse}
+use Rattle.reference.specs.Start.{Config, config-cause, start}
+use Rattle.reference.specs.Step.{Move}
+use Rattle.reference.specs.Cause.{cause}
+use Rattle.reference.specs.Break.{step-breaks}
+use Rattle.reference.specs.Session.{moves, short, replays, state-of}
+use Rattle.reference.proofs.Same.{same-state-exact}
+use Rattle.reference.proofs.Laws.{good}
+use Rattle.reference.proofs.Break.{never-breaks}
+use Rattle.session.specs.Contract.{shown, lent-refusal, or-later, move-refusal, replayed, undo-refusal}
+use Rattle.session.proofs.Standing.{moves-front}
+use Rattle.session.proofs.Shown.{record-right}
+use Rattle.session.proofs.Holding.{Holds, shown-is, config-is, applied-held}
+
+-- a later cause that is never there
+or-later-none : (c n : ℕ) → (c ≡ 0 → n ≡ 0) → or-later c n ≡ c
+or-later-none zero n h = h refl
+or-later-none (suc c) n h = refl
+
+pub or-refuse : (b : Bool) (k n : ℕ) → or-later (refuse b (suc k) 0) n ≡ refuse b (suc k) n
+or-refuse true k n = refl
+or-refuse false k n = refl
+
+module _ (c : Config) (right : config-cause c ≡ 0) (ms : List Move) (r : Session) (j : List ℕ) (h : Holds c ms r j) where
+  keeps-rules : session-ok r ≡ true
+  keeps-rules = subst (λ (x : Session). session-ok x ≡ true) (sym (h .shows)) (record-right c ms right (h .legal))
+
+  -- 10 is the only first cause
+  pub lent-number : (size n : ℕ) → or-later (lent-refusal r size) n ≡ refuse (short size) 10 n
+  unfolding lent-refusal
+  lent-number size n = rw keeps-rules (or-refuse (short size) 9 n)
+
+  -- the test of the session's own journal, and of any that is lent
+  pub replayed-is : (o : List ℕ) → replayed r o ≡ replays (start c) (moves (length ms) o) (state-of c ms)
+  unfolding replayed
+  replayed-is o = λ i. replays (start (config-is c right ms r j h i)) (moves (applied-held c right ms r j h i) o) (shown-is c right ms r j h i)
+
+  pub own-replays : replayed r j ≡ true
+  unfolding replays
+  own-replays = replayed-is j ∙ rw (moves-front ms j (h .whole), h .legal) (same-state-exact .itself (state-of c ms))
+
+  -- 15 is never there at a step
+  cause-is : (a : Move) → or-later (cause (shown r) a) (refuse (step-breaks (shown r) a) 15 0) ≡ cause (state-of c ms) a
+  cause-is a =
+      rw (shown-is c right ms r j h)
+      (or-later-none (cause (state-of c ms) a) _
+      (λ e. rw (never-breaks (state-of c ms) a (good c right ms (h .legal)) e)))
+
+  pub move-number : (o : List ℕ) (a : Move) → move-refusal r o a ≡ refuse (short (length o)) 10 (cause (state-of c ms) a)
+  unfolding move-refusal
+  move-number o a = lent-number (length o) _ ∙ ap (refuse (short (length o)) 10) (cause-is a)
+
+  pub undo-number : (o : List ℕ) → undo-refusal r o ≡ refuse (short (length o)) 10 (refuse (eqb (length ms) 0) 9 (refuse (not (replayed r o)) 16 0))
+  unfolding undo-refusal
+  undo-number o =
+      lent-number (length o) _ ∙
+      ap (λ (n : ℕ). refuse (short (length o)) 10 (refuse (eqb n 0) 9 (refuse (not (replayed r o)) 16 0))) (applied-held c right ms r j h)

@@ -1,0 +1,56 @@
+-- The record of a reached state keeps the rules, shows that state and is pictured by the state's picture.
+-- Assumes nothing.
+use Prim.Native.Nat.{ℕ, _+_, _*_, _≤_}
+use mathlib.Core.Bool.{true}
+use mathlib.Core.List.{List, _++_}
+use mathlib.Core.Path.{_≡_, sym, ap, _∙_, subst}
+use native.Mathlib.Omega.{arith}
+use lib.ListN.{length, drop}
+use borrow.Author.Tests.{le-ltb}
+use Rattle.state.specs.Association.{encode, decode, session-record}
+use Rattle.state.specs.Rules.{state-ok, session-ok}
+use Rattle.state.specs.Allowed.{Allowed}
+use Rattle.reference.specs.Start.{Config, config-cause, start}
+use Rattle.reference.specs.Step.{Move}
+use Rattle.reference.specs.Cause.{accepted}
+use Rattle.reference.specs.Snapshot.{picture}
+use Rattle.reference.specs.Lists.{fronted}
+use Rattle.reference.specs.Session.{state-of, picture-size}
+use Rattle.reference.specs.Safe.{In}
+use Rattle.reference.proofs.Start.{ranges}
+use Rattle.reference.proofs.Laws.{sized}
+use Rattle.shown.proofs.Decode.{decode-encode, encode-ok}
+use Rattle.shown.proofs.Reached.{reached-allowed}
+use Rattle.shown.proofs.Unique.{session-record-ok, encode-sized}
+use Rattle.snapshot.specs.Snapshot.{picture-length, write-refusal, written}
+use Rattle.snapshot.proofs.RoundTrip as picture
+
+module _ (c : Config) (ms : List Move) (right : config-cause c ≡ 0) (ok : accepted (start c) ms ≡ true) where
+  allowed : Allowed (state-of c ms)
+  allowed = reached-allowed c right ms ok
+
+  pub record-right : session-ok (session-record (state-of c ms) (c .B)) ≡ true
+  record-right =
+      session-record-ok (state-of c ms) (c .B) allowed (subst (λ (n : ℕ). In n (c .B)) (sym (sized c ms .1)) (ranges c right .created))
+
+  pub state-right : state-ok (encode (state-of c ms)) ≡ true
+  state-right = encode-ok (state-of c ms) allowed
+
+  pub state-back : decode (encode (state-of c ms)) ≡ state-of c ms
+  state-back = decode-encode (state-of c ms) allowed
+
+  -- how long its picture is
+  pub length-is : picture-length (encode (state-of c ms)) ≡ picture-size c
+  unfolding encode
+  length-is = let z = sized c ms in omega (arith, z .0, z .1, z .2)
+
+  pub picture-long : length (picture (state-of c ms)) ≡ picture-size c
+  picture-long = rw state-back at (picture.picture-size (encode (state-of c ms)) (encode-sized (state-of c ms)) state-right) ∙ length-is
+
+  module _ (b : List ℕ) (room : picture-size c ≤ length b) where
+    pub fits : write-refusal (encode (state-of c ms)) (length b) ≡ 0
+    fits = rw (state-right, le-ltb (length b) (picture-length (encode (state-of c ms))) (omega (arith, length-is)))
+
+    pub pictured : written (encode (state-of c ms)) b ≡ fronted b (picture (state-of c ms))
+    unfolding written
+    pictured = rw (fits, state-back, length-is ∙ sym picture-long)

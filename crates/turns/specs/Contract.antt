@@ -1,0 +1,66 @@
+-- Document 02, No. 7: what a scripted start, a turn and a class answer, on all inputs: the equations that their contracts state.
+-- `r` is the record, `j` the journal lent, `x` the scripts.
+-- Assumes nothing.
+use Prim.Native.Nat.{ℕ}
+use mathlib.Core.Bool.{not}
+use mathlib.Core.List.{List}
+use lib.Dec.{eqb}
+use lib.ListN.{length}
+use Rattle.session.specs.declared.Answer.{Answer}
+use Rattle.state.specs.declared.Session.{Session}
+use Rattle.state.specs.Record.{zero-session}
+use Rattle.state.specs.Association.{session-record}
+use Rattle.session.specs.Contract.{shown, config-of, answered, or-later, lent-refusal, standing, replayed, progress-in, move-refusal, moved, journal-after}
+use Rattle.reference.specs.Refusal.{too-short, bad-journal, refuse}
+use Rattle.reference.specs.Lists.{choose, fronted}
+use Rattle.reference.specs.Start.{Config, config-cause, start}
+use Rattle.reference.specs.Step.{Move}
+use Rattle.reference.specs.Script.{scripts-cause, turn-move, class-moves, class-answers, class-pictures}
+use Rattle.reference.specs.Session.{bytes, state-of, cramped}
+
+-- ---- scripted start: 1, 19; refused, an all-zero record
+
+unfoldable pub scripted : Config → List ℕ → Answer
+scripted c x = answered (or-later (config-cause c) (scripts-cause (c .T) x)) (session-record (start c) (c .B)) zero-session
+
+-- ---- turn of processor p: 10, 15 (record), 19, then its move's; refused, the record handed in and the journal as it was
+
+-- its move: a thread's calls are counted in the journal, up to the first move that does not replay
+abbrev pub turn-made : Session → List ℕ → List ℕ → ℕ → Move
+turn-made r j x p = turn-move (shown r) (progress-in r j) x p
+
+unfoldable pub turn-refusal : Session → List ℕ → List ℕ → ℕ → ℕ
+turn-refusal r j x p =
+    or-later (lent-refusal r (length j)) (or-later (scripts-cause (r .state .t) x) (move-refusal r j (turn-made r j x p)))
+
+unfoldable pub turned : Session → List ℕ → List ℕ → ℕ → Answer
+turned r j x p = answered (turn-refusal r j x p) (moved r j (turn-made r j x p) .session) r
+
+unfoldable pub turn-journal : Session → List ℕ → List ℕ → ℕ → List ℕ
+turn-journal r j x p = choose (eqb (turn-refusal r j x p) 0) (journal-after r j (turn-made r j x p)) j
+
+-- ---- class, turns of the processors ps with buffers for answers and pictures: 10 (journal), 15, 10 (buffers), 16, 19;
+-- refused, the record handed in, journal and buffers as they were
+
+module _ (r : Session) (j x ps answers pictures : List ℕ) where
+  unfoldable pub class-refusal : ℕ
+  class-refusal =
+      or-later (lent-refusal r (length j))
+      (refuse (cramped (config-of r) (length ps) answers pictures) too-short
+      (refuse (not (replayed r j)) bad-journal (scripts-cause (r .state .t) x)))
+
+  -- the moves that stand after it
+  abbrev pub class-made : List Move
+  class-made = class-moves (config-of r) x (standing r j) ps
+
+  unfoldable pub classed : Answer
+  classed = answered class-refusal (session-record (state-of (config-of r) class-made) (r .initial)) r
+
+  unfoldable pub class-journal : List ℕ
+  class-journal = choose (eqb class-refusal 0) (fronted j (bytes class-made)) j
+
+  unfoldable pub answers-after : List ℕ
+  answers-after = choose (eqb class-refusal 0) (fronted answers (class-answers (config-of r) x (standing r j) ps)) answers
+
+  unfoldable pub pictures-after : List ℕ
+  pictures-after = choose (eqb class-refusal 0) (fronted pictures (class-pictures (config-of r) x (standing r j) ps)) pictures

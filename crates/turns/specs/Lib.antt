@@ -1,0 +1,2 @@
+-- What a scripted start, a turn and a class answer.
+pub mod Contract

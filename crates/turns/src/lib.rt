@@ -1,0 +1,1 @@
+// Scripted threads: a scripted start, a turn, and a class of turns.
