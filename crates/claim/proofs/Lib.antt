@@ -2,3 +2,7 @@
 pub mod Numbers
 pub mod Leaves
 pub mod Claim
+pub mod Fits
+pub mod Sample
+pub mod Wrong
+pub mod Worked

@@ -8,8 +8,8 @@ pub mod answer;
 mod reader;
 mod refusal;
 mod rule;
-mod turns;
-mod writer;
+mod waiting;
+pub mod writer;
 
 use answer::Ahead;
 use answer::Read;
@@ -50,5 +50,5 @@ pub fn ahead(s: State, thread: u8) -> Ahead
     if !there {
         return Ahead::Refused(refusal::BAD_OPERAND);
     }
-    turns::turns_ahead(s, thread)
+    waiting::turns_ahead(s, thread)
 }

@@ -127,7 +127,7 @@ pub(crate) fn put_threads(b: &mut [u8], t: u8, threads: [Thread; 33])
 }
 
 // The whole of a state where it fits: 10 where not.
-pub(crate) fn put(b: &mut [u8], s: State) -> u8
+pub fn put(b: &mut [u8], s: State) -> u8
     ensures { λ r. ⌜ (r ≡ refuse (ltb (length (now (b .entry))) (picture-length s)) too-short 0) × (now (b .exit) ≡ over (now (b .entry)) (record-bytes s)) ⌝ }
 {
     let chains = s.chains;

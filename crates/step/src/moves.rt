@@ -119,7 +119,7 @@ fn ended(
 }
 
 // Makes moves, three bytes each, in order on one record that is changed in place, until one is refused. Bytes left over are no move.
-// The calls among the moves made are counted for each thread.
+// The calls among the moves made are counted for each thread. Who needs no counts lends a list of one: no thread has the number 0.
 pub fn run(mut s: State, moves: &[u8], calls: &mut [u16]) -> Run
     ensures state { λ r. ⌜ r ≡ run-of s (now (moves .entry)) ⌝ }
     ensures calls { λ r. ⌜ now (calls .exit) ≡ counted-of s (now (moves .entry)) (now (calls .entry)) ⌝ }

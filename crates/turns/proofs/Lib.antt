@@ -1,1 +1,5 @@
 -- What the entry points' code finds.
+pub mod Fronted
+pub mod Turned
+pub mod Answers
+pub mod Loop

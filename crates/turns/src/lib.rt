@@ -1,1 +1,135 @@
 // Scripted threads: a scripted start, a turn, and a class of turns.
+mod sequence;
+mod taken;
+
+ghost use mathlib.Core.Path.{_≡_};
+ghost use lib.ListN.{length};
+ghost use Rattle.script.specs.Association.{move-in};
+ghost use Rattle.session.specs.Contract.{table, lent-refusal};
+ghost use Rattle.turns.specs.Contract.{scripted, turn-made, turned, turn-journal, class-refusal, classed, class-journal, answers-after, pictures-after};
+use crate::sequence::take_turns;
+use crate::sequence::unfit;
+use crate::taken::turn_move;
+use script::Move;
+use script::scripts_ok;
+use session::Answer;
+use session::lent;
+use session::make_move;
+use session::test_journal;
+use state::Position;
+use state::Session;
+use state::State;
+
+const BAD_SCRIPT: u8 = 19;
+
+// Begins a session whose threads have scripts: P processors, T threads, M mutexes, B threads created at first.
+pub fn start(p: u8, t: u8, m: u8, b: u8, scripts: &[u8]) -> Answer
+    ensures { λ r. ⌜ r ≡ scripted (table p t m b) (now (scripts .entry)) ⌝ }
+{
+    let begun = session::start(p, t, m, b);
+    if begun.refusal != 0 {
+        return begun;
+    }
+    let ok = scripts_ok(t, scripts);
+    if ok {
+        return begun;
+    }
+    let state = State::zero();
+    Answer {
+        refusal: BAD_SCRIPT,
+        session: Session { state, initial: 0 },
+    }
+}
+
+// The move of processor p's turn: at App its thread's calls are counted in the journal.
+fn next_move(session: Session, journal: &[u8], scripts: &[u8], p: u8) -> Move
+    requires { ⌜ lent-refusal session (length (now journal)) ≡ 0 ⌝ }
+    ensures { λ r. ⌜ move-in r ≡ turn-made session (now (journal .entry)) (now (scripts .entry)) p ⌝ }
+{
+    let state = session.state;
+    let r = state.processor(p);
+    let mut calls = [0u16; 33];
+    if r.position == Position::APP {
+        let found = test_journal(session, journal);
+        let counted = found.calls;
+        calls = counted;
+    }
+    turn_move(r, calls, scripts, p)
+}
+
+// A turn of processor p. Accepted, record and journal are those after its move; refused, both stay.
+pub fn turn(session: Session, journal: &mut [u8], scripts: &[u8], p: u8) -> Answer
+    ensures answer { λ r. ⌜ r ≡ turned session (now (journal .entry)) (now (scripts .entry)) p ⌝ }
+    ensures written { λ r. ⌜ now (journal .exit) ≡ turn-journal session (now (journal .entry)) (now (scripts .entry)) p ⌝ }
+{
+    let first = lent(session, journal.len());
+    if first != 0 {
+        return Answer {
+            refusal: first,
+            session,
+        };
+    }
+    let state = session.state;
+    let ok = scripts_ok(state.t, scripts);
+    if ok {
+        let a = next_move(session, journal, scripts, p);
+        return make_move(session, journal, p, a.action, a.operand);
+    }
+    Answer {
+        refusal: BAD_SCRIPT,
+        session,
+    }
+}
+
+// A class: the turns of the processors in `turns`, one after the other, each answer and the picture after each turn, refused ones too, written behind one another.
+// Refused as a whole, record, journal and buffers stay.
+pub fn class(
+    session: Session,
+    journal: &mut [u8],
+    scripts: &[u8],
+    turns: &[u8],
+    answers: &mut [u8],
+    pictures: &mut [u8],
+) -> Answer
+    ensures answer { λ r. ⌜ r ≡ classed session (now (journal .entry)) (now (scripts .entry)) (now (turns .entry)) (now (answers .entry)) (now (pictures .entry)) ⌝ }
+    ensures journal { λ r. ⌜ now (journal .exit) ≡ class-journal session (now (journal .entry)) (now (scripts .entry)) (now (turns .entry)) (now (answers .entry)) (now (pictures .entry)) ⌝ }
+    ensures answers { λ r. ⌜ now (answers .exit) ≡ answers-after session (now (journal .entry)) (now (scripts .entry)) (now (turns .entry)) (now (answers .entry)) (now (pictures .entry)) ⌝ }
+    ensures pictures { λ r. ⌜ now (pictures .exit) ≡ pictures-after session (now (journal .entry)) (now (scripts .entry)) (now (turns .entry)) (now (answers .entry)) (now (pictures .entry)) ⌝ }
+{
+    let first = unfit(
+        session,
+        journal.len(),
+        turns.len(),
+        answers.len(),
+        pictures.len(),
+    );
+    if first != 0 {
+        return Answer {
+            refusal: first,
+            session,
+        };
+    }
+    let found = test_journal(session, journal);
+    let strange = found.refusal;
+    if strange != 0 {
+        return Answer {
+            refusal: strange,
+            session,
+        };
+    }
+    let state = session.state;
+    let ok = scripts_ok(state.t, scripts);
+    if ok {
+        let calls = found.calls;
+        let state = take_turns(session, calls, journal, scripts, turns, answers, pictures);
+        let initial = session.initial;
+        return Answer {
+            refusal: 0,
+            session: Session { state, initial },
+        };
+    }
+    Answer {
+        refusal: BAD_SCRIPT,
+        session,
+    }
+}

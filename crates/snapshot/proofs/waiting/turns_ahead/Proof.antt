@@ -4,8 +4,8 @@ use native.Mathlib.Omega.{arith}
 use Rattle.state.specs.Record.{thread-of}
 use Rattle.snapshot.proofs.Formula.{turns-none, turns-free, turns-owned, walk-most}
 use borrow.Author.Needs.{needs}
-use Rattle.snapshot.proofs.turns.turns_ahead.Statement.{statement}
-use Rattle.snapshot.proofs.turns.turns_ahead.Tie as tie
+use Rattle.snapshot.proofs.waiting.turns_ahead.Statement.{statement}
+use Rattle.snapshot.proofs.waiting.turns_ahead.Tie as tie
 
 returns : tie.Need-returns
 returns c =

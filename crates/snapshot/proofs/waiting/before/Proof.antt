@@ -7,8 +7,8 @@ use native.Mathlib.Omega.{arith}
 use Rattle.state.specs.Record.{thread-in, chain}
 use Rattle.snapshot.specs.Turns.{before}
 use Rattle.snapshot.proofs.Formula.{walk-out, walk-end, walk-here, walk-on}
-use Rattle.snapshot.proofs.turns.before.Statement.{statement}
-use Rattle.snapshot.proofs.turns.before.Tie as tie
+use Rattle.snapshot.proofs.waiting.before.Statement.{statement}
+use Rattle.snapshot.proofs.waiting.before.Tie as tie
 
 abbrev Inv-loop : tie.InvT-loop
 Inv-loop threads first thread at₀ n₀ at n = (n ≤ 32) × (n + before thread (chain (thread-in threads) (32 - n) at) ≡ before thread (chain (thread-in threads) 32 first))

@@ -1,0 +1,158 @@
+-- The claim is about something: a session with accepted and refused moves, turns, classes and steps back, and with other journals.
+-- Assumes nothing.
+use Prim.Native.Nat.{ℕ, suc}
+use mathlib.Core.List.{List, [], _∷_, _++_}
+use mathlib.Core.Path.{_≡_, refl, sym, ap, _∙_, subst}
+use native.Mathlib.Omega.{arith}
+use lib.ListN.{length, getD, replicate, length-replicate}
+use Rattle.reference.specs.Lists.{tabulate, same-list, each}
+use Rattle.reference.specs.State.{same-state}
+use Rattle.reference.specs.Start.{Config, config-cause, start}
+use Rattle.reference.specs.Step.{Move, move-of, next, run, act, action-of, line}
+use Rattle.reference.specs.Cause.{cause, accepted}
+use Rattle.reference.specs.Script.{script-ok, scripts-ok, progress, turn-move, class-moves, class-answers}
+use Rattle.reference.specs.Session.{Opening, scripted, Request, move, turn, class, back, own, other, Reply, bytes, moves, all-but-last, replays, answers}
+use Rattle.turns.specs.Contract as turns
+use Rattle.claim.specs.Demand.{contract, Event, asks, passes, asked, told, IsSession, opening, Agrees}
+use Rattle.claim.proofs.Claim.{claim}
+use Rattle.claim.proofs.Fits.{Fits, is-session}
+
+-- a request lent the session's own journal, or another
+abbrev pub ask : Request → Event
+ask q = asks (record { request = q; lent = own })
+
+abbrev pub ask-with : List ℕ → Request → Event
+ask-with o q = asks (record { request = q; lent = other o })
+
+-- two processors with a thread each, one mutex
+abbrev pub two : Config
+two = record { P = 2; T = 2; M = 1; B = 2 }
+
+-- thread 1 locks and unlocks mutex 1, thread 2 unlocks it
+abbrev pub scripts : List ℕ
+scripts = 2 ∷ 1 ∷ 1 ∷ 3 ∷ 1 ∷ replicate 8 0 ++ 1 ∷ 3 ∷ 1 ∷ replicate 10 0
+
+-- thread 2 yields before it unlocks
+abbrev mended : List ℕ
+mended = 2 ∷ 1 ∷ 1 ∷ 3 ∷ 1 ∷ replicate 8 0 ++ 2 ∷ 4 ∷ 0 ∷ 3 ∷ 1 ∷ replicate 8 0
+
+-- thread 1 has 7 calls; thread 2 an action 7
+abbrev too-many : List ℕ
+too-many = 7 ∷ replicate 12 1 ++ replicate 13 0
+
+abbrev no-action : List ℕ
+no-action = replicate 13 0 ++ 1 ∷ 7 ∷ replicate 11 0
+
+-- a journal that is long enough
+unfoldable pub long : List ℕ
+long = replicate 12000 0
+
+long-length : length long ≡ 12000
+unfolding long
+long-length = length-replicate {A = ℕ} 12000 0
+
+-- journals that begin with some moves, then with what is no move
+unfoldable pub after-moves : List Move → List ℕ
+after-moves ms = bytes ms ++ replicate 12000 9
+
+-- of other moves than the sample's, and of its first two
+abbrev strange : List ℕ
+strange = after-moves []
+
+abbrev same : List ℕ
+same = after-moves (move-of 1 1 1 ∷ move-of 1 0 0 ∷ [])
+
+-- three turns, with buffers of n and m bytes; 3 and 144 are needed
+abbrev three : List ℕ → ℕ → ℕ → Request
+three x n m = class x (1 ∷ 2 ∷ 1 ∷ []) (replicate n 99) (replicate m 99)
+
+abbrev pub sample : List Event
+sample =
+    -- 0: a lock
+    ask (move (move-of 1 1 1)) ∷
+    -- 0: a turn elsewhere than at App is a go; thread 1 owns the mutex
+    ask (turn scripts 1) ∷
+    -- 6, 6: a refused turn, and tried again; 0: its script has stayed at the first call, so with other scripts it yields
+    ask (turn scripts 2) ∷ ask (turn scripts 2) ∷ ask (turn mended 2) ∷
+    -- 0: a step back; 0: thread 1's second call, since its first was made as a move; 0: a step back
+    ask back ∷ ask (turn scripts 1) ∷ ask back ∷
+    -- 2: a refused move
+    ask (move (move-of 9 0 0)) ∷
+    -- 16, 5, 16: a journal of other moves; 10, 10: one that is short
+    ask-with strange back ∷ ask-with strange (move (move-of 1 0 0)) ∷ ask-with strange (three scripts 5 200) ∷
+    ask-with [] (move (move-of 1 3 1)) ∷ ask-with [] (three [] 0 0) ∷
+    -- 6, 19, 10: another journal that replays
+    ask-with same (turn scripts 2) ∷ ask-with same (three [] 3 144) ∷ ask-with same (three scripts 3 143) ∷
+    -- a call of another kind
+    passes ∷
+    -- 19, 19, 19: scripts that are short or not in order
+    ask (turn [] 1) ∷ ask (turn too-many 9) ∷ ask (three no-action 3 144) ∷
+    -- 10, 10: a class refused as a whole, since a buffer is short
+    ask (three scripts 2 144) ∷ ask (three scripts 3 143) ∷
+    -- 0: the class in longer buffers. It unlocks: one of its turns is refused, two moves are made.
+    ask (three scripts 5 200) ∷
+    -- 0, 0, 0, 0, 9
+    ask back ∷ ask back ∷ ask back ∷ ask back ∷ ask back ∷ []
+
+-- the numbers of the replies
+unfoldable pub numbers-of : List Reply → List ℕ
+numbers-of [] = []
+numbers-of (r ∷ rest) = r .refusal ∷ numbers-of rest
+
+-- the buffer for answers, as call i of the list leaves it
+abbrev pub answers-buffer : ℕ → List Reply → List ℕ
+answers-buffer i l = getD (getD l i (record { refusal = 0; buffers = [] }) .buffers) 0 []
+
+abbrev pub numbers : List ℕ
+numbers =
+    0 ∷ 0 ∷ 6 ∷ 6 ∷ 0 ∷ 0 ∷ 0 ∷ 0 ∷ 2 ∷ 16 ∷ 5 ∷ 16 ∷ 10 ∷ 10 ∷ 6 ∷ 19 ∷ 10 ∷ 19 ∷ 19 ∷ 19 ∷ 10 ∷ 10 ∷ 0 ∷ 0 ∷ 0 ∷ 0 ∷ 0 ∷ 9 ∷ []
+
+-- what the sample computes with: to unfold this is to unfold all that its line names
+computing : Unit {0}
+unfolding after-moves bytes asked answers numbers-of Fits config-cause start tabulate run next act line cause action-of replays all-but-last accepted moves same-state same-list each script-ok scripts-ok progress turn-move class-moves class-answers
+computing = tt
+
+sample-answers : numbers-of (answers two 12000 [] (asked sample)) ≡ numbers
+unfolding computing
+sample-answers = refl
+
+sample-buffers : (answers-buffer 22 (answers two 12000 [] (asked sample)) ≡ 0 ∷ 6 ∷ 0 ∷ 99 ∷ 99 ∷ []) ×
+    (answers-buffer 20 (answers two 12000 [] (asked sample)) ≡ 99 ∷ 99 ∷ [])
+unfolding computing
+sample-buffers = (refl, refl)
+
+-- a scripted start begins it
+abbrev pub begins : Opening
+begins = scripted two scripts
+
+begins-accepted : contract .begin begins long .refusal ≡ 0
+unfolding computing turns.scripted
+begins-accepted = refl
+
+refused : (n : ℕ) → suc n ≡ 0 → ⊥
+refused n e = omega arith
+
+sample-fits : Fits two 12000 [] sample
+unfolding computing
+sample-fits =
+    (tt, (tt, (tt, (tt, (tt, (tt, (tt, (tt, (tt, (refused 15, (refused 4, (refused 15, (refused 9, (refused 9, (refused 5, (refused 18, (refused 9, (tt, (tt, (tt, (tt, (tt, (tt, (tt, (tt, (tt, (tt, (tt, tt))))))))))))))))))))))))))))
+
+-- it is a session of the contracts, and its calls are answered so
+pub sample-belongs : IsSession contract (opening contract begins long) sample
+sample-belongs = is-session begins long begins-accepted sample (subst (λ (n : ℕ). Fits two n [] sample) (sym long-length) sample-fits)
+
+pub sample-agrees : Agrees contract begins long sample
+sample-agrees = claim .sessions begins long begins-accepted sample sample-belongs
+
+told-is : told contract (opening contract begins long) sample ≡ answers two 12000 [] (asked sample)
+told-is = sample-agrees .answered ∙ ap (λ (n : ℕ). answers two n [] (asked sample)) long-length
+
+pub sample-told : numbers-of (told contract (opening contract begins long) sample) ≡ numbers
+sample-told = ap numbers-of told-is ∙ sample-answers
+
+-- the accepted class has put its turns' answers in front of the buffer's later bytes; one that is refused as a whole leaves the buffer
+pub sample-filled : answers-buffer 22 (told contract (opening contract begins long) sample) ≡ 0 ∷ 6 ∷ 0 ∷ 99 ∷ 99 ∷ []
+sample-filled = ap (answers-buffer 22) told-is ∙ sample-buffers .0
+
+pub sample-kept : answers-buffer 20 (told contract (opening contract begins long) sample) ≡ 99 ∷ 99 ∷ []
+sample-kept = ap (answers-buffer 20) told-is ∙ sample-buffers .1

@@ -1,0 +1,87 @@
+-- Document 02, No. 7, worked on two processors with a thread each and one mutex: a class that goes through a hand-off, and two journals with the same record
+-- that call for different moves. Actions: 0 go, 1 lock, 3 unlock, 4 yield, 5 exit.
+-- Assumes nothing.
+use Prim.Native.Nat.{ℕ}
+use mathlib.Core.Bool.{true}
+use mathlib.Core.List.{List, [], _∷_, _++_}
+use mathlib.Core.Path.{_≡_}
+use lib.ListN.{replicate}
+use Rattle.reference.specs.State.{State, Mutex, no-token, mutex-at}
+use Rattle.reference.specs.Start.{Config, start}
+use Rattle.reference.specs.Step.{Move, move-of, run}
+use Rattle.reference.specs.Cause.{accepted}
+use Rattle.reference.specs.Snapshot.{picture}
+use Rattle.reference.specs.Script.{progress, turned, class-moves, class-answers}
+
+-- start 2 2 1 2
+abbrev pub two : Config
+two = record { P = 2; T = 2; M = 1; B = 2 }
+
+-- ---- the class
+
+-- the scripts of both threads: lock 1, unlock 1
+abbrev pub both : List ℕ
+both = 2 ∷ 1 ∷ 1 ∷ 3 ∷ 1 ∷ replicate 8 0 ++ 2 ∷ 1 ∷ 1 ∷ 3 ∷ 1 ∷ replicate 8 0
+
+-- both lock; 1 goes L1, so thread 1 owns; 2 goes L1, L3, L4, L6, so thread 2 waits
+abbrev pub until-waiting : List ℕ
+until-waiting = 1 ∷ 2 ∷ 1 ∷ 2 ∷ 2 ∷ 2 ∷ 2 ∷ []
+
+-- there is no processor 3; thread 1 unlocks, and 1 goes U1, H2, H3
+abbrev pub until-handed : List ℕ
+until-handed = until-waiting ++ 3 ∷ 1 ∷ 1 ∷ 1 ∷ 1 ∷ []
+
+-- thread 1 exits; 1 goes CI2, 2 idles, 1 goes CI3; thread 2 unlocks on processor 1; 2 idles; thread 2 exits; both idle
+abbrev pub turns : List ℕ
+turns = until-handed ++ 1 ∷ 1 ∷ 2 ∷ 1 ∷ 1 ∷ 1 ∷ 2 ∷ 1 ∷ 1 ∷ 2 ∷ []
+
+abbrev pub state-after : List ℕ → State
+state-after ps = run (start two) (class-moves two both [] ps)
+
+abbrev pub mutex : ℕ → List ℕ → ℕ → Mutex
+mutex c q o = record { count = c; queue = q; owner = o; token = no-token }
+
+-- a go of processor p
+abbrev pub go : ℕ → Move
+go p = move-of p 0 0
+
+pub record HandOff : Type 0 where
+  -- each turn's answer: only that of processor 3 is refused
+  pub answers : class-answers two both [] turns ≡ replicate 7 0 ++ 2 ∷ replicate 14 0
+  -- the moves made
+  pub moves : class-moves two both [] turns ≡
+      move-of 1 1 1 ∷ move-of 2 1 1 ∷ go 1 ∷ go 2 ∷ go 2 ∷ go 2 ∷ go 2 ∷
+      move-of 1 3 1 ∷ go 1 ∷ go 1 ∷ go 1 ∷
+      move-of 1 5 0 ∷ go 1 ∷ go 2 ∷ go 1 ∷ move-of 1 3 1 ∷ go 1 ∷ go 2 ∷ move-of 1 5 0 ∷ go 1 ∷ go 2 ∷ []
+  -- thread 1 owns and thread 2 waits; then thread 2 owns, taken from the queue and ready
+  pub waiting : mutex-at (state-after until-waiting) 1 ≡ mutex 2 (2 ∷ []) 1
+  pub handed : (mutex-at (state-after until-handed) 1 ≡ mutex 1 [] 2) × (state-after until-handed .ready ≡ 2 ∷ [])
+  -- at the end: 21 moves stand, both processors are at CI2, the mutex is free, both threads have ended
+  pub shown : picture (state-after turns) ≡
+      2 ∷ 2 ∷ 1 ∷ 0 ∷ 0 ∷ 21 ∷ 0 ∷ 0 ∷
+      1 ∷ 0 ∷ 0 ∷ 0 ∷ 0 ∷ 0 ∷ 0 ∷ 0 ∷ 0 ∷ 0 ∷ 0 ∷ 0 ∷
+      1 ∷ 0 ∷ 0 ∷ 0 ∷ 0 ∷ 0 ∷ 0 ∷ 0 ∷ 0 ∷ 0 ∷ 0 ∷ 0 ∷
+      0 ∷ 0 ∷ 0 ∷ 0 ∷ 0 ∷ 0 ∷ 0 ∷ 0 ∷
+      5 ∷ 0 ∷ 0 ∷ 0 ∷
+      5 ∷ 0 ∷ 0 ∷ 0 ∷ []
+
+-- ---- two journals
+
+-- processor p yields and goes, which leads back to App
+abbrev pub yielded : ℕ → List Move
+yielded p = move-of p 4 0 ∷ go p ∷ []
+
+-- thread 1: yield, lock 1. thread 2: yield.
+abbrev pub yielding : List ℕ
+yielding = 2 ∷ 4 ∷ 0 ∷ 1 ∷ 1 ∷ replicate 8 0 ++ 1 ∷ 4 ∷ 0 ∷ replicate 10 0
+
+pub record SameRecord : Type 0 where
+  -- both lists are accepted
+  pub legal : (accepted (start two) (yielded 1) ≡ true) × (accepted (start two) (yielded 2) ≡ true)
+  -- and give the same state,
+  pub state : run (start two) (yielded 1) ≡ run (start two) (yielded 2)
+  -- but thread 1 has made one call by the first and none by the second,
+  pub places : (progress (start two) (yielded 1) 1 ≡ 1) × (progress (start two) (yielded 2) 1 ≡ 0)
+  -- so the next turn of processor 1 locks after the first and yields after the second
+  pub next-turn : (turned two yielding (yielded 1) 1 ≡ move-of 1 1 1) × (turned two yielding (yielded 2) 1 ≡ move-of 1 4 0)
+  pub differ : ¬ (turned two yielding (yielded 1) 1 ≡ turned two yielding (yielded 2) 1)

@@ -1,0 +1,217 @@
+-- What a scripted start, a turn and a class answer, case by case: the shape in which their code arrives at it.
+-- Assumes nothing.
+use Prim.Native.Nat.{ℕ, zero, suc, _*_, _/_, _≤_, _<_}
+use mathlib.Core.Bool.{Bool, true, false, _||_, not}
+use mathlib.Core.List.{List}
+use mathlib.Core.Path.{_≡_, refl, sym, ap, _∙_}
+use native.Mathlib.Decide.{decLe}
+use native.Mathlib.Nat.{div-lt-iff-lt-mul}
+use native.Mathlib.Omega.{arith}
+use lib.Dec.{eqb, ltb}
+use lib.ListN.{length}
+use borrow.Author.Tests.{eq-eqb, ne-eqb, lt-ltb, le-ltb, ltb-true, ltb-false}
+use Rattle.state.specs.declared.State.{State as Record}
+use Rattle.state.specs.declared.Session.{Session}
+use Rattle.state.specs.Record.{zero-session}
+use Rattle.state.specs.Association.{encode}
+use Rattle.session.specs.declared.Answer.{Answer}
+use Rattle.reference.specs.Refusal.{refuse}
+use Rattle.reference.specs.Lists.{choose, tabulate}
+use Rattle.reference.specs.Start.{Config, config-cause}
+use Rattle.reference.specs.Step.{Move, move-of}
+use Rattle.reference.specs.Script.{scripts-ok, scripts-cause}
+use Rattle.reference.specs.Session.{cramped}
+use Rattle.session.specs.Contract.{shown, config-of, started, or-later, lent-refusal, move-refusal, moved, journal-after, replayed, progress-in, tested}
+use Rattle.session.proofs.Holding.{or-passed}
+use Rattle.turns.specs.Contract.{scripted, turn-made, turn-refusal, turned, turn-journal, class-refusal, classed, class-journal, answers-after, pictures-after}
+use Rattle.turns.specs.Model.{Given}
+use Rattle.turns.proofs.Turned.{its-own}
+
+-- ---- scripted start
+
+module _ (c : Config) (x : List ℕ) (a : Answer) (e : a ≡ started c) where
+  number : a .refusal ≡ config-cause c
+  unfolding started
+  number = ap (λ (b : Answer). b .refusal) e
+
+  pub start-refused : (a .refusal ≡ 0 → ⊥) → a ≡ scripted c x
+  unfolding started scripted
+  start-refused h = e ∙ by (config-cause c) _ (λ z. h (number ∙ z))
+    where
+      by : (n : ℕ) (s : Session) → (n ≡ 0 → ⊥) →
+          _≡_ {A = Answer} (record { refusal = n; session = choose (eqb n 0) s zero-session })
+          (record { refusal = or-later n (scripts-cause (c .T) x); session = choose (eqb (or-later n (scripts-cause (c .T) x)) 0) s zero-session })
+      by zero s k = absurd (k refl)
+      by (suc n) s k = refl
+
+  pub start-taken : a .refusal ≡ 0 → scripts-ok (c .T) x ≡ true → a ≡ scripted c x
+  unfolding started scripted
+  start-taken z ok = e ∙ rw (sym number ∙ z, ok)
+
+  pub start-unscripted : a .refusal ≡ 0 → scripts-ok (c .T) x ≡ false → record { refusal = 19; session = zero-session } ≡ scripted c x
+  unfolding scripted
+  start-unscripted z ok = rw (sym number ∙ z, ok)
+
+-- ---- turn
+
+module _ (r : Session) (j x : List ℕ) (p : ℕ) where
+  -- a refused turn: the number, the record handed in, and the journal as it was
+  pub record Kept (n : ℕ) : Type 0 where
+    pub answer : record { refusal = n; session = r } ≡ turned r j x p
+    pub journal : j ≡ turn-journal r j x p
+
+  turn-kept : (n : ℕ) → n ≡ turn-refusal r j x p → (n ≡ 0 → ⊥) → Kept n
+  unfolding turned turn-journal
+  turn-kept n e h = record { answer = rw (← e, ne-eqb n 0 h); journal = rw (← e, ne-eqb n 0 h) }
+
+  -- 10 or 15
+  pub turn-lent : (n : ℕ) → n ≡ lent-refusal r (length j) → (n ≡ 0 → ⊥) → Kept n
+  unfolding turn-refusal
+  turn-lent zero e h = absurd (h refl)
+  turn-lent (suc n) e h = turn-kept (suc n) (rw (← e)) h
+
+  module _ (free : lent-refusal r (length j) ≡ 0) where
+    pub turn-unscripted : scripts-ok (r .state .t) x ≡ false → Kept 19
+    unfolding turn-refusal
+    turn-unscripted e = turn-kept 19 (rw (free, e)) (λ z. absurd (omega arith))
+
+    module _ (ok : scripts-ok (r .state .t) x ≡ true) (m : Move) (is : m ≡ turn-made r j x p) where
+      its-number : turn-refusal r j x p ≡ move-refusal r j (turn-made r j x p)
+      unfolding turn-refusal
+      its-number = rw (free, ok)
+
+      move-is : move-of p (m .action) (m .operand) ≡ turn-made r j x p
+      move-is = ap (λ (a : Move). move-of p (a .action) (a .operand)) is ∙ its-own (shown r) (progress-in r j) x p
+
+      pub turn-answer : (a : Answer) → a ≡ moved r j (move-of p (m .action) (m .operand)) → a ≡ turned r j x p
+      unfolding moved turned
+      turn-answer a e = e ∙ ap (moved r j) move-is ∙ rw its-number (by (eqb (move-refusal r j (turn-made r j x p)) 0) _ _)
+        where
+          by : (b : Bool) (n : ℕ) (s : Session) →
+              _≡_ {A = Answer} (record { refusal = n; session = choose b s r }) (record { refusal = n; session = choose b (choose b s r) r })
+          by true n s = refl
+          by false n s = refl
+
+      pub turn-written : (l : List ℕ) → l ≡ journal-after r j (move-of p (m .action) (m .operand)) → l ≡ turn-journal r j x p
+      unfolding journal-after turn-journal
+      turn-written l e = e ∙ ap (journal-after r j) move-is ∙ rw its-number (by (eqb (move-refusal r j (turn-made r j x p)) 0) _)
+        where
+          by : (b : Bool) (k : List ℕ) → choose b k j ≡ choose b (choose b k j) j
+          by true k = refl
+          by false k = refl
+
+-- the calls that the journal's test counts
+pub tested-calls : (r : Session) (j : List ℕ) → lent-refusal r (length j) ≡ 0 → tested r j .calls ≡ tabulate (progress-in r j) 0 33
+unfolding tested
+tested-calls r j free = rw free
+
+-- ---- class
+
+-- a cause that is there hides the later ones
+pub lent-first : (n m k : ℕ) → n ≡ m → (n ≡ 0 → ⊥) → n ≡ or-later m k
+lent-first zero m k e h = absurd (h refl)
+lent-first (suc n) m k e h = rw (← e)
+
+-- a quotient is below n where the number is below n times the divisor
+room-is : (b s n : ℕ) → 0 < s → ltb (b / s) n ≡ ltb b (n * s)
+room-is b s n pos = by (ltb b (n * s)) refl
+  where
+    not-below : (m n : ℕ) → (m < n → ⊥) → n ≤ m
+    not-below m n h = elim (decLe n m) [ yes p ↦ p | no p ↦ absurd (h (omega arith)) ]
+
+    by : (t : Bool) → ltb b (n * s) ≡ t → ltb (b / s) n ≡ t
+    by true e = lt-ltb (b / s) n (div-lt-iff-lt-mul pos .1 (ltb-true b (n * s) e))
+    by false e = le-ltb (b / s) n (not-below (b / s) n (λ h. absurd (omega (arith, div-lt-iff-lt-mul pos .0 h, ltb-false b (n * s) e))))
+
+-- the buffers have no room, or they have
+module _ (m : ℕ) (free : m ≡ 0) (a b n s k : ℕ) (is : k ≡ s) (pos : 0 < s) where
+  pub unfit-some : ltb a n || ltb (b / k) n ≡ true → 10 ≡ or-later m (refuse (ltb a n || ltb b (n * s)) 10 0)
+  unfit-some e = rw (free, ← room-is b s n pos, ← is, e)
+
+  pub unfit-none : ltb a n || ltb (b / k) n ≡ false → 0 ≡ or-later m (refuse (ltb a n || ltb b (n * s)) 10 0)
+  unfit-none e = rw (free, ← room-is b s n pos, ← is, e)
+
+module _ (r : Session) (j x ps answers pictures : List ℕ) where
+  -- refused as a whole
+  pub record ClassKept (n : ℕ) : Type 0 where
+    pub answer : record { refusal = n; session = r } ≡ classed r j x ps answers pictures
+    pub journal : j ≡ class-journal r j x ps answers pictures
+    pub told : answers ≡ answers-after r j x ps answers pictures
+    pub shown : pictures ≡ pictures-after r j x ps answers pictures
+
+  class-kept : (n : ℕ) → n ≡ class-refusal r j x ps answers pictures → (n ≡ 0 → ⊥) → ClassKept n
+  unfolding classed class-journal answers-after pictures-after
+  class-kept n e h =
+      let z = ne-eqb n 0 h in
+      record { answer = rw (← e, z); journal = rw (← e, z); told = rw (← e, z); shown = rw (← e, z) }
+
+  abbrev full : Bool
+  full = cramped (config-of r) (length ps) answers pictures
+
+  -- 10, 15 or 10
+  pub class-unfit : (n : ℕ) → n ≡ or-later (lent-refusal r (length j)) (refuse full 10 0) → (n ≡ 0 → ⊥) → ClassKept n
+  unfolding class-refusal
+  class-unfit n e h = class-kept n (e ∙ by (lent-refusal r (length j)) full _ (λ z. h (e ∙ z))) h
+    where
+      by : (m : ℕ) (b : Bool) (k : ℕ) → (or-later m (refuse b 10 0) ≡ 0 → ⊥) → or-later m (refuse b 10 0) ≡ or-later m (refuse b 10 k)
+      by zero true k z = refl
+      by zero false k z = absurd (z refl)
+      by (suc m) b k z = refl
+
+  module _ (fits : or-later (lent-refusal r (length j)) (refuse full 10 0) ≡ 0) where
+    free : lent-refusal r (length j) ≡ 0
+    free = or-passed (lent-refusal r (length j)) (refuse full 10 0) fits .0
+
+    room : full ≡ false
+    room = by full (sym (rw free) ∙ fits)
+      where
+        by : (b : Bool) → refuse b 10 0 ≡ 0 → b ≡ false
+        by true z = absurd (omega arith)
+        by false z = refl
+
+    abbrev strange : ℕ
+    strange = refuse (not (replayed r j)) 16 0
+
+    number-is : class-refusal r j x ps answers pictures ≡ refuse (not (replayed r j)) 16 (scripts-cause (r .state .t) x)
+    unfolding class-refusal
+    number-is = rw (free, room)
+
+    test-is : tested r j .refusal ≡ strange
+    unfolding tested
+    test-is = rw free
+
+    -- 16
+    pub class-strange : (n : ℕ) → n ≡ tested r j .refusal → (n ≡ 0 → ⊥) → ClassKept n
+    class-strange n e h = class-kept n (e ∙ test-is ∙ by (not (replayed r j)) _ (λ z. h (e ∙ test-is ∙ z)) ∙ sym number-is) h
+      where
+        by : (b : Bool) (k : ℕ) → (refuse b 16 0 ≡ 0 → ⊥) → refuse b 16 0 ≡ refuse b 16 k
+        by true k z = refl
+        by false k z = absurd (z refl)
+
+    module _ (same : tested r j .refusal ≡ 0) where
+      replays-true : not (replayed r j) ≡ false
+      replays-true = by (not (replayed r j)) (sym test-is ∙ same)
+        where
+          by : (b : Bool) → refuse b 16 0 ≡ 0 → b ≡ false
+          by true z = absurd (omega arith)
+          by false z = refl
+
+      -- 19
+      pub class-unscripted : scripts-ok (r .state .t) x ≡ false → ClassKept 19
+      class-unscripted e = class-kept 19 (sym (number-is ∙ rw (replays-true, e))) (λ z. absurd (omega arith))
+
+      module _ (ok : scripts-ok (r .state .t) x ≡ true) where
+        pub class-none : class-refusal r j x ps answers pictures ≡ 0
+        class-none = number-is ∙ rw (replays-true, ok)
+
+        pub calls-are : tested r j .calls ≡ tabulate (progress-in r j) 0 33
+        calls-are = tested-calls r j free
+
+-- what the turns gave is what the class answers
+pub class-given : (r : Session) (j x ps answers pictures : List ℕ) → class-refusal r j x ps answers pictures ≡ 0 → (s : Record) (j′ answers′ pictures′ : List ℕ) →
+    Given r j x ps answers pictures s j′ answers′ pictures′ →
+    (record { refusal = 0; session = record { state = s; initial = r .initial } } ≡ classed r j x ps answers pictures) × (j′ ≡ class-journal r j x ps answers pictures) ×
+    (answers′ ≡ answers-after r j x ps answers pictures) × (pictures′ ≡ pictures-after r j x ps answers pictures)
+unfolding classed class-journal answers-after pictures-after
+class-given r j x ps answers pictures none s j′ answers′ pictures′ g =
+    (rw (none, g .state), rw (none, g .journal), rw (none, g .told), rw (none, g .shown))

@@ -1,0 +1,172 @@
+-- `turns::sequence::take_turns` meets its contract. The invariant speaks of any B, since the loop does not look at the record's.
+-- Assumes nothing.
+use Prim.Native.Nat.{ℕ, _+_, _-_, _≤_}
+use mathlib.Core.List.{List, _++_}
+use mathlib.Core.Path.{_≡_, refl, sym, subst}
+use native.Mathlib.Omega.{arith}
+use borrow.Author.Needs.{needs}
+use lib.ListN.{length, set, take, drop}
+use Rattle.state.specs.declared.State.{State}
+use Rattle.state.specs.declared.Session.{Session}
+use Rattle.state.proofs.Sized.{Sized, session-sized}
+use Rattle.reference.specs.Lists.{tabulate}
+use Rattle.session.specs.Contract.{progress-in}
+use Rattle.turns.specs.Contract.{class-refusal}
+use Rattle.turns.proofs.Loop.{Going, going-start, going-more, going-end, fine, next-fits, journal-size, told-size, shown-size}
+use Rattle.turns.proofs.sequence.take_turns.Statement.{statement}
+use Rattle.turns.proofs.sequence.take_turns.Tie as tie
+
+-- the record with B
+abbrev with-b : State → ℕ → Session
+with-b s b = record { state = s; initial = b }
+
+abbrev Inv-loop : tie.InvT-loop
+Inv-loop journal₀ scripts turns answers₀ pictures₀ state₀ calls₀ size at₀ i₀ journal answers pictures state calls at i =
+    (b : ℕ) (z : Sized state₀) (none : class-refusal (with-b state₀ b) journal₀ scripts turns answers₀ pictures₀ ≡ 0) →
+    calls₀ ≡ tabulate (progress-in (with-b state₀ b) journal₀) 0 33 →
+    Going (with-b state₀ b) z journal₀ scripts turns answers₀ pictures₀ none i at state calls journal answers pictures
+
+abbrev μ-loop : tie.MeasureT-loop
+μ-loop journal₀ scripts turns answers₀ pictures₀ state₀ calls₀ size at₀ i₀ journal answers pictures state calls at i = length turns - i
+
+loop-holds : tie.Need-loop-holds Inv-loop μ-loop
+loop-holds c = λ b z none e. going-start _ z _ _ _ _ _ none _ e
+
+slice-write-answers : tie.Need-slice-write-answers Inv-loop μ-loop
+slice-write-answers c =
+    let l = c .before .before .before .before .before .before .before in
+    let s = l .before .before .before .before .before .before .before .before in
+    let r = s .args .session in
+    let z = session-sized (s .good .0) in
+    let none = s .pre .none in
+    let g = l .loop .inv (r .initial) z none (s .pre .counted) in
+    omega (arith, told-size r z _ _ _ _ _ none _ _ _ _ _ _ _ g, fine r z _ _ _ _ _ none .room .0)
+
+-- where the picture goes there is room for it
+fits : tie.Need-sub-put Inv-loop μ-loop
+fits c =
+    let l = c .before .before .before .before .before .before .before .before .before in
+    let s = l .before .before .before .before .before .before .before .before in
+    let r = s .args .session in
+    let z = session-sized (s .good .0) in
+    let none = s .pre .none in
+    let g = l .loop .inv (r .initial) z none (s .pre .counted) in
+    omega (arith, shown-size r z _ _ _ _ _ none _ _ _ _ _ _ _ g, next-fits r z _ _ _ _ _ none _ _ _ _ _ _ _ g (omega arith))
+
+part-put-start : tie.Need-part-put-start Inv-loop μ-loop
+part-put-start c =
+    let l = c .before .before .before .before .before .before .before .before .before in
+    let s = l .before .before .before .before .before .before .before .before in
+    let r = s .args .session in
+    let z = session-sized (s .good .0) in
+    let none = s .pre .none in
+    let g = l .loop .inv (r .initial) z none (s .pre .counted) in
+    let size = shown-size r z _ _ _ _ _ none _ _ _ _ _ _ _ g in
+    let room = next-fits r z _ _ _ _ _ none _ _ _ _ _ _ _ g (omega arith) in
+    search needs
+
+part-put-end : tie.Need-part-put-end Inv-loop μ-loop
+part-put-end c =
+    let l = c .before .before .before .before .before .before .before .before .before in
+    let s = l .before .before .before .before .before .before .before .before in
+    let r = s .args .session in
+    let z = session-sized (s .good .0) in
+    let none = s .pre .none in
+    let g = l .loop .inv (r .initial) z none (s .pre .counted) in
+    let size = shown-size r z _ _ _ _ _ none _ _ _ _ _ _ _ g in
+    let room = next-fits r z _ _ _ _ _ none _ _ _ _ _ _ _ g (omega arith) in
+    search needs
+
+add-at : tie.Need-add-at Inv-loop μ-loop
+add-at c =
+    let l = c .before .before .before .before .before .before .before .before .before .before .before .before .before in
+    let s = l .before .before .before .before .before .before .before .before in
+    let r = s .args .session in
+    let z = session-sized (s .good .0) in
+    let none = s .pre .none in
+    let g = l .loop .inv (r .initial) z none (s .pre .counted) in
+    let room = next-fits r z _ _ _ _ _ none _ _ _ _ _ _ _ g (omega (arith, c .before .before .before .before .before .before .before .before .before .before .before .before .loop-test .taken)) in
+    omega (arith, l .before .picture-size .ensures)
+
+loop-again : tie.Need-loop-again Inv-loop μ-loop
+loop-again c =
+    let l = c .before .before .before .before .before .before .before .before .before .before .before .before .before in
+    let turn = c .before .before .before .before .before .before .before .before .before .before .take-turn in
+    let kept = c .before .before .before .before .before .before .before .before .keep-move in
+    let wrote = c .before .before .put in
+    let shows : List ℕ = l .loop .pictures in
+    let at : ℕ = l .loop .at in
+    let after : List ℕ = take at shows ++ (wrote .last .0 ++ drop (length shows - at) (drop at shows)) in
+    λ b z none e.
+    subst
+    (λ (n : ℕ).
+    Going _ z _ _ _ _ _ none (l .loop .i + 1) (at + n) (turn .result .state) (turn .result .calls) (kept .last .0)
+    (set (l .loop .answers) (l .loop .i) (turn .result .refusal)) after) (sym (l .before .picture-size .ensures))
+    (going-more _ z _ _ _ _ _ none _ _ _ _ _ _ _ (l .loop .inv b z none e) (omega (arith, c .before .before .before .before .before .before .before .before .before .before .before .before .loop-test .taken)) (turn .result) (turn .ensures) (kept .last .0) _ (wrote .last .0)
+    (kept .ensures) refl (wrote .ensures .1))
+
+same-length : tie.Need-same-length Inv-loop μ-loop
+same-length c =
+    let l = c .before in
+    let s = l .before .before .before .before .before .before .before .before in
+    let r = s .args .session in
+    let z = session-sized (s .good .0) in
+    let none = s .pre .none in
+    let g = l .loop .inv (r .initial) z none (s .pre .counted) in
+    journal-size r z _ _ _ _ _ none _ _ _ _ _ _ _ g
+
+same-length-2 : tie.Need-same-length-2 Inv-loop μ-loop
+same-length-2 c =
+    let l = c .before in
+    let s = l .before .before .before .before .before .before .before .before in
+    let r = s .args .session in
+    let z = session-sized (s .good .0) in
+    let none = s .pre .none in
+    let g = l .loop .inv (r .initial) z none (s .pre .counted) in
+    told-size r z _ _ _ _ _ none _ _ _ _ _ _ _ g
+
+same-length-3 : tie.Need-same-length-3 Inv-loop μ-loop
+same-length-3 c =
+    let l = c .before in
+    let s = l .before .before .before .before .before .before .before .before in
+    let r = s .args .session in
+    let z = session-sized (s .good .0) in
+    let none = s .pre .none in
+    let g = l .loop .inv (r .initial) z none (s .pre .counted) in
+    shown-size r z _ _ _ _ _ none _ _ _ _ _ _ _ g
+
+returns : tie.Need-returns Inv-loop μ-loop
+returns c =
+    let l = c .before in
+    let s = l .before .before .before .before .before .before .before .before in
+    let r = s .args .session in
+    let z = session-sized (s .good .0) in
+    let none = s .pre .none in
+    let g = l .loop .inv (r .initial) z none (s .pre .counted) in
+    let e : l .loop .i ≡ length (s .args .turns .now) = omega (arith, g .few) in
+    going-end r z _ _ _ _ _ none _ _ _ _ _ _ _ g e
+
+pub take-turns-spec : {M : Type 1} → statement M
+take-turns-spec =
+    tie.close
+    (tie.spec
+    Inv-loop
+    μ-loop
+    (λ c κs. search needs)
+    loop-holds
+    (λ c. search needs)
+    (λ c κs. search needs)
+    (λ c κs. search needs)
+    slice-write-answers
+    fits
+    part-put-start
+    part-put-end
+    (λ c κs. search needs)
+    add-at
+    (λ c. omega (arith, c .before .before .before .before .before .before .before .before .before .before .before .before .loop-test .taken, c .before .before .before .before .before .before .before .before .before .before .before .before .before .before .before .before .before .before .before .before .before .good .1 .1 .1 .1 .0))
+    (λ c. omega (arith, c .before .before .before .before .before .before .before .before .before .before .before .before .loop-test .taken))
+    loop-again
+    same-length
+    same-length-2
+    same-length-3
+    returns)
