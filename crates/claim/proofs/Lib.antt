@@ -2,6 +2,7 @@
 pub mod Numbers
 pub mod Leaves
 pub mod Claim
+pub mod Class
 pub mod Fits
 pub mod Sample
 pub mod Wrong
