@@ -1,17 +1,21 @@
-//! An independent implementation of the hand-off machine of document 01.
+//! An independent implementation of the hand-off machine of document 01, and
+//! of scripted threads (document 02, No. 7).
 //!
 //! Terms of document 01 and the names used here: loaded is `current`, hand is
 //! `transit`, rank is `sequence`, seen is `observed`, standing moves are
-//! `applied`, step back is `undo`, turns ahead is `ahead`. A picture is the
+//! `applied`, step back is `undo`, turns ahead is `ahead`, a thread's place in
+//! its script is its progress, a class session is a `class`. A picture is the
 //! byte form of a `Snapshot`, which is the state as fixed tables with chains.
 //!
 //! - `machine`: the state with plain queues, the start and the lines.
 //! - `record`: the state as tables with chains, its rules, both conversions.
 //! - `picture`: a snapshot's bytes, written and read.
 //! - `session`: the calls on a session record and a lent journal.
+//! - `script`: scripts, turns and classes.
 //! - `plain`: the plain session, ownership by history and the laws.
 //! - `program`: the line program.
 //! - `random`: random sessions from a seed.
+//! - `random_scripts`: random scripts and lists of turns.
 //! - `worked`: the worked sessions of document 01.
 
 pub mod machine;
@@ -19,7 +23,9 @@ pub mod picture;
 pub mod plain;
 pub mod program;
 pub mod random;
+pub mod random_scripts;
 pub mod record;
+pub mod script;
 pub mod session;
 pub mod worked;
 

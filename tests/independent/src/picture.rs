@@ -19,33 +19,36 @@ pub fn length(processors: u8, threads: u8, mutexes: u8) -> usize {
 
 /// The fields as bytes, rules or not; only rows within the sizes.
 pub fn raw_bytes(shown: &Snapshot) -> Vec<u8> {
-    let [applied_high, applied_low] = shown.applied.to_be_bytes();
-    let mut bytes = vec![
-        shown.processors,
-        shown.threads,
-        shown.mutexes,
-        shown.ready_first,
-        applied_high,
-        applied_low,
-        0,
-        0,
-    ];
+    let mut bytes = Vec::new();
+    lay(shown, |part| bytes.extend(part));
+    bytes
+}
+
+/// Fills a buffer of exactly the picture's length with the fields, rules or not.
+pub fn fill(shown: &Snapshot, mut buffer: &mut [u8]) {
+    lay(shown, |part| {
+        let (front, rest) = std::mem::take(&mut buffer).split_at_mut(part.len());
+        front.copy_from_slice(part);
+        buffer = rest;
+    });
+}
+
+/// Hands out a picture's bytes in order, a few at a time.
+fn lay(shown: &Snapshot, mut put: impl FnMut(&[u8])) {
+    let [high, low] = shown.applied.to_be_bytes();
+    put(&[shown.processors, shown.threads, shown.mutexes, shown.ready_first, high, low, 0, 0]);
     for row in shown.processor_rows.iter().take(usize::from(shown.processors)) {
-        bytes.extend([row.position, row.current, row.transit, row.mutex]);
-        bytes.extend([row.observed.processor, 0]);
-        bytes.extend(row.observed.sequence.to_be_bytes());
-        bytes.extend(row.sequence.to_be_bytes());
-        bytes.extend([row.answer, 0]);
+        let [observed, own] = [row.observed.sequence, row.sequence].map(u16::to_be_bytes);
+        put(&[row.position, row.current, row.transit, row.mutex, row.observed.processor, 0]);
+        put(&[observed[0], observed[1], own[0], own[1], row.answer, 0]);
     }
     for row in shown.mutex_rows.iter().take(usize::from(shown.mutexes)) {
-        bytes.extend([row.count, row.first, row.owner, row.token.processor]);
-        bytes.extend(row.token.sequence.to_be_bytes());
-        bytes.extend([0, 0]);
+        let [high, low] = row.token.sequence.to_be_bytes();
+        put(&[row.count, row.first, row.owner, row.token.processor, high, low, 0, 0]);
     }
     for row in shown.thread_rows.iter().take(usize::from(shown.threads)) {
-        bytes.extend([row.place, row.holder, row.next, 0]);
+        put(&[row.place, row.holder, row.next, 0]);
     }
-    bytes
 }
 
 /// The fields of bytes that are exactly a picture's length, rules or not, and whether
