@@ -1,0 +1,441 @@
+//! Scripts, turns and their refusals, one by one: 19 at its boundaries, the order of refusals,
+//! and which call a thread makes next.
+
+use independent::machine::{
+    Config, Life, Move, Position, CREATE, EXIT, GO, LOCK, TRYLOCK, UNLOCK, YIELD,
+};
+use independent::record::Record;
+use independent::script::{self, script, Progress, Scripts, SCRIPT};
+use independent::session::{self, JOURNAL};
+use independent::worked::{self, Worked};
+
+const FILLER: u8 = 0xa5;
+
+/// A session under scripts, record and journal.
+struct Sitting {
+    scripts: Vec<u8>,
+    record: Record,
+    journal: Vec<u8>,
+}
+
+impl Sitting {
+    fn new(config: Config, scripts: &[[u8; SCRIPT]]) -> Sitting {
+        let scripts = scripts.concat();
+        let begun = script::start(config, &scripts);
+        assert_eq!((begun.number, begun.value), (0, session::start(config).value));
+        Sitting { scripts, record: begun.value, journal: vec![FILLER; JOURNAL] }
+    }
+
+    /// Takes a turn and gives its number; a refused one changes nothing.
+    fn turn(&mut self, p: u8) -> u8 {
+        let (record, journal) = (self.record, self.journal.clone());
+        let answer = script::turn(&self.record, &mut self.journal, &self.scripts, p);
+        self.record = answer.value;
+        if answer.number != 0 {
+            assert!(self.record == record && self.journal == journal);
+        }
+        answer.number
+    }
+
+    /// Accepted turns, one for each processor listed.
+    fn turns(&mut self, processors: &[u8]) {
+        for &p in processors {
+            assert_eq!(self.turn(p), 0);
+        }
+    }
+
+    fn make_move(&mut self, made: Move) {
+        let answer = session::make_move(&self.record, &mut self.journal, made);
+        assert_eq!(answer.number, 0);
+        self.record = answer.value;
+    }
+
+    fn undo(&mut self) {
+        let answer = session::undo(&self.record, &self.journal);
+        assert_eq!(answer.number, 0);
+        self.record = answer.value;
+    }
+
+    /// The last move that stands.
+    fn last(&self) -> Move {
+        let front = session::front(&self.record, &self.journal).value;
+        let at = front.len() - 3;
+        [front[at], front[at + 1], front[at + 2]]
+    }
+
+    /// How many calls each thread has made.
+    fn progress(&self) -> Vec<u16> {
+        let config = self.record.config();
+        let progress = Progress::of(config, &self.journal, self.record.snapshot.applied);
+        (1..=config.threads).map(|thread| progress.thread(thread)).collect()
+    }
+
+    fn position(&self, p: u8) -> Position {
+        self.record.state().unwrap().processor(p).position
+    }
+}
+
+fn is_good(bytes: &[u8], threads: u8) -> bool {
+    Scripts::read(bytes, threads).is_some()
+}
+
+#[test]
+fn lengths() {
+    for threads in [1, 2, 7, 31, 32] {
+        let whole = SCRIPT * usize::from(threads);
+        let long = vec![0; whole + 20];
+        for length in [0, 1, 12, whole - SCRIPT, whole - 1] {
+            assert!(is_good(&long[..length], threads) == (length >= whole));
+        }
+        for length in whole..=whole + 20 {
+            assert!(is_good(&long[..length], threads));
+        }
+    }
+}
+
+/// Every number of calls, with actions that are calls and with none.
+#[test]
+fn numbers_of_calls() {
+    for thread in 0..3 {
+        for number in 0..=255 {
+            let mut bytes = vec![LOCK; 3 * SCRIPT];
+            bytes[SCRIPT * thread] = number;
+            assert_eq!(is_good(&bytes, 3), number <= 6);
+            let pairs = &mut bytes[SCRIPT * thread + 1..][..SCRIPT - 1];
+            pairs.fill(0);
+            assert_eq!(is_good(&bytes, 3), number == 0);
+            let pairs = &mut bytes[SCRIPT * thread + 1..][..SCRIPT - 1];
+            pairs.fill(7);
+            assert_eq!(is_good(&bytes, 3), number == 0);
+        }
+    }
+}
+
+/// Every action in every pair, inside the number and past it.
+#[test]
+fn actions() {
+    for number in 0..=6 {
+        for pair in 0..6 {
+            for action in 0..=255 {
+                let mut bytes = script(&[[YIELD, 0]; 6]);
+                bytes[0] = number;
+                bytes[1 + 2 * pair] = action;
+                let unread = pair >= usize::from(number);
+                assert_eq!(is_good(&bytes, 1), unread || (1..=6).contains(&action));
+            }
+        }
+    }
+}
+
+/// Only the scripts of threads 1 to T are looked at.
+#[test]
+fn later_scripts() {
+    let (good, bad) = (script(&[[EXIT, 9]]), script(&[[0, 0]]));
+    let mut long = [3; SCRIPT];
+    long[0] = 7;
+    for wrong in [bad, long] {
+        for threads in 1..=4 {
+            for at in 0..6 {
+                let mut bytes = [good; 6];
+                bytes[at] = wrong;
+                assert_eq!(is_good(&bytes.concat(), threads), at >= usize::from(threads));
+            }
+        }
+    }
+}
+
+#[test]
+fn starts() {
+    let good = [script(&[[LOCK, 1]]); 32].concat();
+    for config in [Config::new(8, 32, 8, 32), Config::new(1, 1, 1, 1), Config::new(3, 5, 2, 2)] {
+        let whole = SCRIPT * usize::from(config.threads);
+        for length in [whole, whole + 1, good.len()] {
+            let answer = script::start(config, &good[..length.min(good.len())]);
+            assert_eq!(answer, session::start(config));
+        }
+        let answer = script::start(config, &good[..whole - 1]);
+        assert_eq!((answer.number, answer.value), (19, Record::default()));
+        let mut bad = good.clone();
+        bad[whole - SCRIPT + 1] = 7;
+        let answer = script::start(config, &bad);
+        assert_eq!((answer.number, answer.value), (19, Record::default()));
+    }
+    // 1 comes first.
+    for config in [Config::new(9, 1, 1, 1), Config::new(1, 0, 1, 1), Config::new(1, 33, 1, 1)] {
+        for scripts in [&good[..], &[], &[7; 500]] {
+            let answer = script::start(config, scripts);
+            assert_eq!((answer.number, answer.value), (1, Record::default()));
+        }
+    }
+}
+
+/// 10, 15, 19, then 2, 3, 8, 6, 7, 15 as a move has them.
+#[test]
+fn order_of_refusals() {
+    let config = Config::new(2, 3, 1, 2);
+    let record = session::start(config).value;
+    let wrong = Record { born: 4, ..record };
+    let good = [script(&[[LOCK, 2]]), script(&[[UNLOCK, 1]]), script(&[])].concat();
+    let bad = &good[..3 * SCRIPT - 1];
+    let number = |record: &Record, length: usize, scripts: &[u8], p: u8| {
+        let mut journal = vec![FILLER; length];
+        let answer = script::turn(record, &mut journal, scripts, p);
+        assert_eq!(answer.value, *record);
+        assert!(journal.iter().all(|&byte| byte == FILLER));
+        answer.number
+    };
+    assert_eq!(number(&wrong, JOURNAL - 1, bad, 0), 10);
+    assert_eq!(number(&wrong, JOURNAL, bad, 0), 15);
+    assert_eq!(number(&record, JOURNAL, bad, 0), 19);
+    for absent in [0, 3, 9, 255] {
+        assert_eq!(number(&record, JOURNAL, &good, absent), 2);
+    }
+    assert_eq!(number(&record, JOURNAL + 1, &good, 1), 3);
+    assert_eq!(number(&record, JOURNAL, &good, 2), 6);
+    // With 4,000 applied: 3 before 8, 8 before 6. The journal's moves are all refused.
+    let mut full = record;
+    full.snapshot.applied = 4_000;
+    assert_eq!(number(&full, JOURNAL, bad, 0), 19);
+    assert_eq!(number(&full, JOURNAL, &good, 0), 2);
+    assert_eq!(number(&full, JOURNAL, &good, 1), 3);
+    assert_eq!(number(&full, JOURNAL, &good, 2), 8);
+    // 7, and a step that would leave the rules.
+    let creates = [script(&[[CREATE, 2]]), script(&[[CREATE, 4]]), script(&[])].concat();
+    assert_eq!(number(&record, JOURNAL, &creates, 1), 7);
+    assert_eq!(number(&record, JOURNAL, &creates, 2), 3);
+    for (name, record, p) in worked::steps_out_of_rules() {
+        assert_eq!(number(&record, JOURNAL, &[0; 13 * 32], p), 15, "{name}");
+    }
+}
+
+/// Bad operands are no cause of 19; the call is refused by 3 for as long as it is next.
+#[test]
+fn bad_operands() {
+    for call in [[LOCK, 0], [LOCK, 2], [TRYLOCK, 255], [UNLOCK, 0], [YIELD, 1], [EXIT, 1]] {
+        let scripts = [script(&[[YIELD, 0], call]), script(&[])];
+        let mut sitting = Sitting::new(Config::new(2, 2, 1, 2), &scripts);
+        sitting.turns(&[1, 1]);
+        assert_eq!(sitting.turn(1), 3);
+        sitting.turns(&[2, 2]);
+        assert_eq!(sitting.turn(1), 3);
+        assert_eq!(sitting.progress(), [1, 1]);
+    }
+}
+
+/// A script of each length is made in order; then the thread exits.
+#[test]
+fn spent_scripts_exit() {
+    let calls = [[LOCK, 1], [UNLOCK, 1], [YIELD, 0], [TRYLOCK, 1], [UNLOCK, 1], [TRYLOCK, 2]];
+    for count in 0..=6 {
+        let mut sitting = Sitting::new(Config::new(1, 1, 2, 1), &[script(&calls[..count])]);
+        for [action, operand] in &calls[..count] {
+            // Nobody else is there, so each call takes one line.
+            sitting.turns(&[1]);
+            assert_eq!(sitting.last(), [1, *action, *operand]);
+            sitting.turns(&[1]);
+            assert_eq!(sitting.last(), [1, GO, 0]);
+        }
+        sitting.turns(&[1]);
+        assert_eq!(sitting.last(), [1, EXIT, 0]);
+        assert_eq!(sitting.progress(), [count as u16 + 1]);
+        sitting.turns(&[1, 1]);
+        assert_eq!((sitting.last(), sitting.position(1)), ([1, GO, 0], Position::CI2));
+    }
+}
+
+/// An exit in a script ends the thread, with calls left.
+#[test]
+fn exit_inside_a_script() {
+    let scripts = [script(&[[EXIT, 0], [LOCK, 1]]), script(&[[LOCK, 1]])];
+    let mut sitting = Sitting::new(Config::new(1, 2, 1, 2), &scripts);
+    sitting.turns(&[1, 1, 1]);
+    assert_eq!(sitting.record.state().unwrap().life(1), Life::Ended);
+    sitting.turns(&[1]);
+    assert_eq!(sitting.last(), [1, LOCK, 1]);
+    assert_eq!(sitting.progress(), [1, 1]);
+}
+
+/// Two threads create the same one: the later is refused by 7 however the others move, and its
+/// script stays there; once the first create is stepped back its own is accepted.
+#[test]
+fn refused_call_is_tried_again() {
+    let scripts = [script(&[[CREATE, 3], [LOCK, 1]]), script(&[[CREATE, 3]]), script(&[])];
+    let mut sitting = Sitting::new(Config::new(3, 3, 1, 2), &scripts);
+    sitting.turns(&[2]);
+    assert_eq!(sitting.turn(1), 7);
+    sitting.turns(&[2, 3, 3]);
+    assert_eq!(sitting.turn(1), 7);
+    assert_eq!(sitting.progress(), [0, 1, 0]);
+    for _ in 0..3 {
+        sitting.undo();
+        assert_eq!(sitting.turn(1), 7);
+    }
+    sitting.undo();
+    sitting.turns(&[1]);
+    assert_eq!(sitting.last(), [1, CREATE, 3]);
+    assert_eq!(sitting.turn(2), 7);
+    sitting.turns(&[1, 1]);
+    assert_eq!(sitting.last(), [1, LOCK, 1]);
+    assert_eq!(sitting.progress(), [2, 0, 0]);
+}
+
+/// Stepping back gives a call back to its thread's script.
+#[test]
+fn steps_back_return_calls() {
+    let scripts = [script(&[[YIELD, 0], [LOCK, 1]])];
+    let mut sitting = Sitting::new(Config::new(1, 1, 1, 1), &scripts);
+    for _ in 0..3 {
+        sitting.turns(&[1, 1, 1]);
+        assert_eq!((sitting.last(), sitting.progress()), ([1, LOCK, 1], vec![2]));
+        sitting.undo();
+        assert_eq!(sitting.progress(), [1]);
+        sitting.undo();
+        sitting.undo();
+        assert_eq!(sitting.progress(), [0]);
+    }
+}
+
+/// Two threads change processors by yields; each goes on where it was.
+#[test]
+fn threads_migrate_with_their_progress() {
+    let scripts = [
+        script(&[[YIELD, 0], [LOCK, 1], [UNLOCK, 1]]),
+        script(&[[YIELD, 0], [TRYLOCK, 2], [YIELD, 0]]),
+        script(&[]),
+    ];
+    let mut sitting = Sitting::new(Config::new(2, 3, 2, 3), &scripts);
+    // Thread 1 yields (Y1, Y2, Y3); processor 1 runs thread 3 (CI2, CI3).
+    sitting.turns(&[1, 1, 1, 1, 1, 1]);
+    // Thread 2 yields, and processor 2 runs thread 1.
+    sitting.turns(&[2, 2, 2, 2, 2, 2]);
+    let state = sitting.record.state().unwrap();
+    assert_eq!([1, 2].map(|p| state.processor(p).current), [3, 1]);
+    assert_eq!(sitting.progress(), [1, 1, 0]);
+    sitting.turns(&[2]);
+    assert_eq!(sitting.last(), [2, LOCK, 1]);
+    // Thread 3 exits, and processor 1 runs thread 2.
+    sitting.turns(&[1]);
+    assert_eq!(sitting.last(), [1, EXIT, 0]);
+    sitting.turns(&[1, 1, 1]);
+    assert_eq!(sitting.last(), [1, TRYLOCK, 2]);
+    sitting.turns(&[2, 2]);
+    assert_eq!(sitting.last(), [2, UNLOCK, 1]);
+    assert_eq!(sitting.progress(), [3, 2, 1]);
+}
+
+/// A waiting thread that another processor takes from the queue goes on with its script.
+#[test]
+fn handed_off_thread_goes_on() {
+    let scripts =
+        [script(&[[LOCK, 1], [UNLOCK, 1]]), script(&[[LOCK, 1], [UNLOCK, 1], [YIELD, 0]])];
+    let mut sitting = Sitting::new(Config::new(2, 2, 1, 2), &scripts);
+    // 1 owns; 2 locks and waits (L1, L3, L4, L6, CI2).
+    sitting.turns(&[1, 1, 2, 2, 2, 2, 2, 2]);
+    // 1 unlocks (U1, H2, H3) and exits; processor 1 runs thread 2 (CI2, CI3).
+    sitting.turns(&[1, 1, 1, 1, 1, 1, 1]);
+    assert_eq!(sitting.record.state().unwrap().processor(1).current, 2);
+    sitting.turns(&[1]);
+    assert_eq!(sitting.last(), [1, UNLOCK, 1]);
+    assert_eq!(sitting.progress(), [3, 2]);
+}
+
+/// A created thread begins its own script.
+#[test]
+fn created_threads_have_scripts() {
+    let scripts = [script(&[[CREATE, 2]]), script(&[[CREATE, 3], [YIELD, 0]]), script(&[])];
+    let mut sitting = Sitting::new(Config::new(1, 3, 1, 1), &scripts);
+    sitting.turns(&[1, 1, 1, 1, 1]);
+    assert_eq!(sitting.record.state().unwrap().processor(1).current, 2);
+    sitting.turns(&[1]);
+    assert_eq!(sitting.last(), [1, CREATE, 3]);
+    sitting.turns(&[1, 1]);
+    assert_eq!(sitting.last(), [1, YIELD, 0]);
+    // Y1, Y2, Y3, CI2, CI3: thread 3 runs and exits, then thread 2 does.
+    sitting.turns(&[1; 6]);
+    assert_eq!((sitting.last(), sitting.progress()), ([1, EXIT, 0], vec![2, 2, 1]));
+    sitting.turns(&[1; 3]);
+    assert_eq!((sitting.last(), sitting.progress()), ([1, EXIT, 0], vec![2, 3, 1]));
+    sitting.turns(&[1; 2]);
+    assert!(sitting.record.state().unwrap().lives.iter().all(|&life| life == Life::Ended));
+}
+
+/// Calls by plain moves count, whatever they are; goes do not.
+#[test]
+fn plain_calls_count() {
+    let scripts = [script(&[[LOCK, 1], [UNLOCK, 1], [YIELD, 0]]), script(&[[CREATE, 3]])];
+    let scripts = [scripts[0], scripts[1], script(&[])];
+    let mut sitting = Sitting::new(Config::new(2, 3, 1, 2), &scripts);
+    sitting.make_move([1, LOCK, 1]);
+    sitting.make_move([1, GO, 0]);
+    sitting.turns(&[1]);
+    assert_eq!(sitting.last(), [1, UNLOCK, 1]);
+    sitting.make_move([1, GO, 0]);
+    for _ in 0..2 {
+        sitting.make_move([1, TRYLOCK, 1]);
+        sitting.make_move([1, GO, 0]);
+        sitting.make_move([1, UNLOCK, 1]);
+        sitting.make_move([1, GO, 0]);
+    }
+    assert_eq!(sitting.progress(), [6, 0, 0]);
+    sitting.turns(&[1, 2]);
+    assert_eq!(sitting.last(), [2, CREATE, 3]);
+    assert_eq!(sitting.record.state().unwrap().life(1), Life::Ended);
+}
+
+/// The record alone does not say what comes next: two journals, the same record, other calls.
+#[test]
+fn same_record_other_journals() {
+    let config = Config::new(2, 2, 1, 2);
+    let scripts = [script(&[[YIELD, 0], [LOCK, 1]]), script(&[[YIELD, 0], [TRYLOCK, 1]])];
+    let [mut one, mut two] = [1, 2].map(|p| {
+        let mut sitting = Sitting::new(config, &scripts);
+        sitting.turns(&[p, p]);
+        sitting
+    });
+    assert_eq!(one.record, two.record);
+    assert_eq!((one.progress(), two.progress()), (vec![1, 0], vec![0, 1]));
+    one.turns(&[1]);
+    two.turns(&[1]);
+    assert_eq!((one.last(), two.last()), ([1, LOCK, 1], [1, YIELD, 0]));
+    one.undo();
+    two.undo();
+    one.turns(&[2]);
+    two.turns(&[2]);
+    assert_eq!((one.last(), two.last()), ([2, YIELD, 0], [2, TRYLOCK, 1]));
+}
+
+/// Of a journal that does not replay the calls before its first refused move count, whoever made
+/// them; moves past the applied ones do not.
+#[test]
+fn journals_that_do_not_replay() {
+    let scripts = [script(&[[YIELD, 0], [LOCK, 1]]), script(&[])].concat();
+    let begun = Worked::new(Config::new(2, 2, 1, 2));
+    let stood = begun.clone().call(2, YIELD, 0).go(2, 1).call(2, YIELD, 0).go(2, 1);
+    let record = Record { snapshot: stood.snapshot(), born: 2 };
+    let yields = |p: u8| [[p, YIELD, 0], [p, GO, 0]];
+    let next = |moves: &[Move]| {
+        let mut journal = vec![FILLER; JOURNAL];
+        journal[..3 * moves.len()].copy_from_slice(&moves.concat());
+        assert_eq!(script::turn(&record, &mut journal, &scripts, 1).number, 0);
+        [journal[12], journal[13], journal[14]]
+    };
+    assert_eq!(next(&stood.moves), [1, YIELD, 0]);
+    assert_eq!(next(&[]), [1, YIELD, 0]);
+    assert_eq!(next(&yields(1)), [1, LOCK, 1]);
+    assert_eq!(next(&[yields(1), yields(1)].concat()), [1, EXIT, 0]);
+    // The second yield is refused by 4, all after it is not counted.
+    assert_eq!(next(&[[1, YIELD, 0], [1, YIELD, 0], [1, GO, 0], [1, YIELD, 0]]), [1, LOCK, 1]);
+    // Four moves stand: the fifth does not count.
+    let five = [yields(2), yields(1), yields(1)].concat();
+    assert_eq!(next(&five), [1, LOCK, 1]);
+    // B decides whose calls they are.
+    let other = Record { born: 1, ..record };
+    let mut journal = [yields(1), yields(1)].concat().concat();
+    journal.resize(JOURNAL, 0);
+    assert_eq!(script::turn(&other, &mut journal, &scripts, 1).number, 0);
+    assert_eq!(journal[12..15], [1, EXIT, 0]);
+    let mut journal = [yields(2), yields(1)].concat().concat();
+    journal.resize(JOURNAL, 0);
+    assert_eq!(script::turn(&other, &mut journal, &scripts, 1).number, 0);
+    assert_eq!(journal[12..15], [1, YIELD, 0]);
+}
