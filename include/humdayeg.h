@@ -5,11 +5,12 @@
  * The functions keep no state, allocate nothing and call nothing; calls on different
  * memory may run at the same time.
  *
- * Numbers. 0 is no refusal; 1 to 14 are those of the scope, named below. No call
- * answers another number.
+ * Numbers. 0 is no refusal; those that refuse are the scope's and that of scripted threads,
+ * named below. No call and no turn of a class is refused by another.
  *
  * Memory. A pointer and the length after it stand for the bytes of a slice. No pointer is
- * NULL, not even where its length is 0. What is written may not overlap what is read.
+ * NULL, not even where its length is 0. What is written may not overlap what is read, nor what
+ * else is written.
  */
 #ifndef HUMDAYEG_H
 #define HUMDAYEG_H
@@ -30,16 +31,20 @@ enum {
     HUMDAYEG_NOT_OWNER = 6,     /* unlock by a thread that is not the owner */
     HUMDAYEG_NOT_NEW = 7,       /* create of a thread that is not unborn */
     HUMDAYEG_FULL = 8,          /* 4,000 moves stand already */
-    HUMDAYEG_TOO_SHORT = 10,    /* buffer shorter than the picture */
+    HUMDAYEG_TOO_SHORT = 10,    /* buffer shorter than what is to be written */
     HUMDAYEG_BAD_LENGTH = 11,   /* length not exactly the picture's */
     HUMDAYEG_BAD_FIELD = 12,    /* a field, register or zero-byte rule */
     HUMDAYEG_BAD_CHAIN = 13,    /* a chain meets a thread twice, a wrong one, or misses one */
-    HUMDAYEG_BAD_HOLDER = 14    /* loaded and hand fields disagree with places 3 and 4 */
+    HUMDAYEG_BAD_HOLDER = 14,   /* loaded and hand fields disagree with places 3 and 4 */
+    HUMDAYEG_BAD_SCRIPT = 19    /* scripts too short, over 6 calls, or an action outside 1 to 6 */
 };
 
 /* The most moves that can stand, and the bytes of a move. */
 #define HUMDAYEG_MOST_MOVES 4000
 #define HUMDAYEG_MOVE_BYTES 3
+
+/* The bytes of a thread's script. */
+#define HUMDAYEG_SCRIPT_BYTES 13
 
 /* The length of a picture; the longest, of 8 processors, 32 threads and 8 mutexes. */
 #define HUMDAYEG_PICTURE_BYTES(p, t, m) \
@@ -71,6 +76,42 @@ uint8_t humdayeg_replay(uint8_t p, uint8_t t, uint8_t m, uint8_t b,
                         const uint8_t *moves, size_t moves_len,
                         uint8_t *picture, size_t picture_len,
                         uint32_t *place);
+
+/*
+ * Takes the turns of a class from a start table, each thread calling by its script, and writes
+ * the picture after each turn.
+ *
+ * p, t, m, b: the start table, as for humdayeg_replay.
+ * scripts: scripts_len bytes, HUMDAYEG_SCRIPT_BYTES for each thread, thread 1 first: its number
+ *     of calls, 0 to 6, then six pairs of action (1 to 6) and operand. Pairs past that number
+ *     and bytes after the last thread's script are not looked at.
+ * turns: turns_len bytes, each the processor that has a turn. At App it makes the next call of
+ *     its loaded thread, or exit when the script is spent; elsewhere it goes. A thread's next
+ *     call is the one after those that it has made.
+ * answers: answers_len bytes, turns_len or more: answers[i] becomes the number of turns[i]:
+ *     0        accepted
+ *     2        no such processor
+ *     3        the call's operand does not fit; operands are looked at in the turn only
+ *     8        4,000 turns were accepted already
+ *     6, 7     unlock by a thread that is not the owner, create of one that is not unborn
+ *     the first that is there. A refused turn changes nothing, so the call is next again.
+ * pictures: pictures_len bytes, turns_len pictures of HUMDAYEG_PICTURE_BYTES(p, t, m) or more,
+ *     one behind the other: the picture after each turn, refused ones too.
+ *
+ * Answers, the first that is there:
+ *     1        the table is outside its ranges
+ *     19       scripts_len is under HUMDAYEG_SCRIPT_BYTES * t, or the script of one of the threads
+ *              1 to t has over six calls or, among its calls, an action outside 1 to 6
+ *     10       answers or pictures is too short
+ *     0        the turns are taken, whether accepted or refused
+ * With any answer but 0 no byte of answers and pictures is changed. Bytes after those that are
+ * written keep their values.
+ */
+uint8_t humdayeg_class(uint8_t p, uint8_t t, uint8_t m, uint8_t b,
+                       const uint8_t *scripts, size_t scripts_len,
+                       const uint8_t *turns, size_t turns_len,
+                       uint8_t *answers, size_t answers_len,
+                       uint8_t *pictures, size_t pictures_len);
 
 /*
  * Reads a picture and answers its number: 0 if the bytes are a picture, else the first that
