@@ -1,7 +1,7 @@
 /*
  * Uses the header and the archive as a C program would, and checks the answers that the scope
  * prints: the start picture, session S with K5, refusals with their places, buffer lengths,
- * reading and turns ahead. Prints a line for each failed check and one with the counts.
+ * reading, turns ahead and classes. Prints a line for each failed check and one with the counts.
  */
 #include "humdayeg.h"
 
@@ -196,6 +196,152 @@ static void turns(void) {
           "K5: thread 1 is not waiting");
 }
 
+/* A class of at most this many turns; its buffers have room for one picture more. */
+#define MOST_TURNS 32
+static uint8_t answers[MOST_TURNS + 1];
+static uint8_t pictures[(MOST_TURNS + 1) * HUMDAYEG_MOST_PICTURE_BYTES];
+
+static int filled(const uint8_t *bytes, size_t from, size_t to) {
+    for (size_t i = from; i < to; i++)
+        if (bytes[i] != FILL)
+            return 0;
+    return 1;
+}
+
+/* Takes a class into the first bytes of both buffers, which held FILL; they keep it from where
+   the class ends, or all through where it is refused. */
+static uint8_t class_in(struct table s, const uint8_t *scripts, size_t scripts_len,
+                        const uint8_t *turns, size_t count, size_t room, size_t picture_room) {
+    memset(answers, FILL, sizeof answers);
+    memset(pictures, FILL, sizeof pictures);
+    uint8_t number = humdayeg_class(s.p, s.t, s.m, s.b, scripts, scripts_len, turns, count,
+                                    answers, room, pictures, picture_room);
+    size_t taken = number == 0 ? count : 0;
+    check(filled(answers, taken, sizeof answers), "answers after the turns are kept");
+    check(filled(pictures, taken * HUMDAYEG_PICTURE_BYTES(s.p, s.t, s.m), sizeof pictures),
+          "bytes after the pictures are kept");
+    return number;
+}
+
+static uint8_t class(struct table s, const uint8_t *scripts, size_t scripts_len,
+                     const uint8_t *turns, size_t count) {
+    return class_in(s, scripts, scripts_len, turns, count, sizeof answers, sizeof pictures);
+}
+
+/* Whether the picture after turn i, counted from 0, is that of a replay. */
+static int shows(struct table s, size_t i, const uint8_t *moves, size_t length) {
+    size_t bytes = HUMDAYEG_PICTURE_BYTES(s.p, s.t, s.m);
+    struct outcome out = replay(s, moves, length);
+    return out.number == 0 && memcmp(pictures + i * bytes, out.picture, bytes) == 0;
+}
+
+/* Thread 1 locks and unlocks, thread 2 locks; what is unread is no call. */
+static const uint8_t LOCKS[] = {2, 1, 1, 3, 1, 0, 0, 7, 0, 255, 255, 9, 9,
+                                1, 1, 1, 0, 0, 7, 0, 255, 255, 9, 9, 9, 9};
+
+/* K5's processors in their order, by scripts. */
+static void classes(void) {
+    uint8_t turns[sizeof K5 / 3];
+    for (size_t i = 0; i < sizeof turns; i++)
+        turns[i] = K5[3 * i];
+    check(sizeof LOCKS == 2 * HUMDAYEG_SCRIPT_BYTES, "the length of two scripts");
+    check(class(TWO, LOCKS, sizeof LOCKS, turns, sizeof turns) == 0, "K5 as a class is taken");
+    for (size_t i = 0; i < sizeof turns; i++)
+        check(answers[i] == 0 && shows(TWO, i, K5, 3 * (i + 1)), "K5 as a class, turn by turn");
+    check(class_in(TWO, LOCKS, sizeof LOCKS, turns, 0, 0, 0) == 0, "a class of no turns");
+}
+
+/* Refused turns between accepted ones: the picture stays and the call is tried again. */
+static void refused_turns(void) {
+    static const uint8_t scripts[] = {1, 3, 1, 0, 0, 0, 0, 0, 0, 0, 0, 0, 0,
+                                      2, 4, 0, 1, 2, 0, 0, 0, 0, 0, 0, 0, 0,
+                                      1, 6, 3, 0, 0, 0, 0, 0, 0, 0, 0, 0, 0,
+                                      0, 0, 0, 0, 0, 0, 0, 0, 0, 0, 0, 0, 0};
+    static const struct table s = {4, 4, 1, 4};
+    static const uint8_t turns[] = {0, 1, 2, 2, 2, 3, 5, 1, 2, 4, 4, 3, 255};
+    static const uint8_t wanted[] = {2, 6, 0, 0, 3, 7, 2, 6, 3, 0, 0, 7, 2};
+    static const uint8_t made[] = {2, 4, 0, 2, 0, 0, 4, 5, 0, 4, 0, 0};
+    check(class(s, scripts, sizeof scripts, turns, sizeof turns) == 0, "refused turns are taken");
+    size_t stand = 0;
+    for (size_t i = 0; i < sizeof turns; i++) {
+        check(answers[i] == wanted[i], "the number of a turn");
+        stand += wanted[i] == 0 ? 3 : 0;
+        check(shows(s, i, made, stand), "the picture after a turn, a refused one too");
+    }
+}
+
+/* Thread 1 has no calls; processor 1 exits it and then finds nobody ready. */
+static void most_turns(void) {
+    static const uint8_t none[HUMDAYEG_SCRIPT_BYTES], tail[] = {1, 2, 0, 1};
+    static uint8_t turns[HUMDAYEG_MOST_MOVES + sizeof tail], numbers[sizeof turns + 1];
+    static uint8_t shown[sizeof turns * HUMDAYEG_PICTURE_BYTES(1, 1, 1)];
+    memset(turns, 1, HUMDAYEG_MOST_MOVES);
+    memcpy(turns + HUMDAYEG_MOST_MOVES, tail, sizeof tail);
+    memset(numbers, FILL, sizeof numbers);
+    check(humdayeg_class(1, 1, 1, 1, none, sizeof none, turns, sizeof turns, numbers,
+                         sizeof numbers, shown, sizeof shown) == 0, "4,004 turns");
+    static const uint8_t wanted[] = {0, HUMDAYEG_FULL, HUMDAYEG_NO_PROCESSOR,
+                                     HUMDAYEG_NO_PROCESSOR, HUMDAYEG_FULL, 0xa5};
+    check(memcmp(numbers + HUMDAYEG_MOST_MOVES - 1, wanted, sizeof wanted) == 0, "8 at the end");
+    size_t accepted = 0;
+    while (accepted < sizeof numbers && numbers[accepted] == 0)
+        accepted++;
+    check(accepted == HUMDAYEG_MOST_MOVES, "4,000 turns are accepted");
+    const uint8_t *last = shown + sizeof shown - HUMDAYEG_PICTURE_BYTES(1, 1, 1);
+    check(last[4] == 0x0f && last[5] == 0xa0, "4,000 moves stand");
+    check(last[8] == 1 && last[28] == 5, "the thread has ended");
+}
+
+/* LOCKS with one byte changed. */
+static uint8_t class_with(size_t at, uint8_t byte) {
+    static const uint8_t turns[] = {1, 2, 1};
+    uint8_t scripts[sizeof LOCKS];
+    memcpy(scripts, LOCKS, sizeof LOCKS);
+    scripts[at] = byte;
+    return class(TWO, scripts, sizeof scripts, turns, sizeof turns);
+}
+
+static void scripts_refused(void) {
+    static const uint8_t turns[] = {1, 2, 1};
+    const size_t whole = sizeof LOCKS;
+    check(class(TWO, LOCKS, whole - 1, turns, 3) == HUMDAYEG_BAD_SCRIPT, "scripts a byte short");
+    check(class(TWO, LOCKS, 0, turns, 3) == HUMDAYEG_BAD_SCRIPT, "no scripts");
+    check(class(ONE, LOCKS, whole, turns, 3) == 0, "longer scripts");
+    check(class(ONE, LOCKS, 13, turns, 3) == 0, "one script");
+    check(class(ONE, LOCKS, 12, turns, 3) == HUMDAYEG_BAD_SCRIPT, "one script, a byte short");
+    for (size_t thread = 0; thread < 2; thread++) {
+        size_t at = thread * HUMDAYEG_SCRIPT_BYTES;
+        check(class_with(at, 7) == HUMDAYEG_BAD_SCRIPT, "seven calls");
+        check(class_with(at, 255) == HUMDAYEG_BAD_SCRIPT, "255 calls");
+        check(class_with(at, 6) == HUMDAYEG_BAD_SCRIPT, "six calls, unread ones no calls");
+        check(class_with(at, 0) == 0, "no calls");
+        check(class_with(at + 1, 0) == HUMDAYEG_BAD_SCRIPT, "action 0");
+        check(class_with(at + 1, 1) == 0 && class_with(at + 1, 6) == 0, "actions 1 and 6");
+        check(class_with(at + 1, 7) == HUMDAYEG_BAD_SCRIPT, "action 7");
+        check(class_with(at + 2, 255) == 0, "an operand is not looked at");
+        check(class_with(at + 11, 1) == 0 && class_with(at + 12, 0) == 0, "unread bytes");
+    }
+    static const uint8_t six[] = {6, 4, 0, 4, 0, 4, 0, 4, 0, 4, 0, 5, 0};
+    check(class(ONE, six, sizeof six, turns, 1) == 0, "six calls");
+}
+
+static void class_buffers(void) {
+    static const uint8_t turns[] = {1, 2, 1, 9};
+    const size_t n = sizeof turns, bytes = n * HUMDAYEG_PICTURE_BYTES(2, 2, 1);
+    const size_t scripts = sizeof LOCKS;
+    check(class_in(TWO, LOCKS, scripts, turns, n, n, bytes) == 0, "buffers of just that length");
+    check(class_in(TWO, LOCKS, scripts, turns, n, n + 1, bytes + 1) == 0, "a byte more");
+    check(class_in(TWO, LOCKS, scripts, turns, n, n - 1, bytes) == HUMDAYEG_TOO_SHORT, "answers");
+    check(class_in(TWO, LOCKS, scripts, turns, n, n, bytes - 1) == HUMDAYEG_TOO_SHORT, "pictures");
+    check(class_in(TWO, LOCKS, scripts, turns, n, 0, 0) == HUMDAYEG_TOO_SHORT, "no buffers");
+    check(class_in(TWO, LOCKS, scripts - 1, turns, n, 0, 0) == HUMDAYEG_BAD_SCRIPT, "19 before 10");
+    const struct table bad = {2, 2, 1, 3};
+    check(class_in(bad, LOCKS, scripts - 1, turns, n, 0, 0) == HUMDAYEG_BAD_TABLE, "1 before 19");
+    check(class_in(bad, LOCKS, scripts, turns, n, n, bytes) == HUMDAYEG_BAD_TABLE, "a bad table");
+    const struct table large = {8, 33, 8, 32};
+    check(class_in(large, LOCKS, scripts, turns, n, n, bytes) == HUMDAYEG_BAD_TABLE, "33 threads");
+}
+
 int main(void) {
     starts();
     sessions();
@@ -204,6 +350,11 @@ int main(void) {
     buffers();
     reading();
     turns();
+    classes();
+    refused_turns();
+    most_turns();
+    scripts_refused();
+    class_buffers();
     printf("%u passed, %u failed\n", passed, failed);
     return failed != 0;
 }
