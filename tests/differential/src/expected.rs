@@ -4,7 +4,8 @@ use crate::{Ahead, Replayed, Table};
 use independent::machine::{Config, State};
 use independent::picture;
 use independent::record::Snapshot;
-use independent::session;
+use independent::script;
+use independent::session::{self, JOURNAL};
 
 pub fn config([p, t, m, b]: Table) -> Config {
     Config::new(p, t, m, b)
@@ -46,6 +47,24 @@ pub fn replay(table: Table, moves: &[u8], buffer: &[u8]) -> (Replayed, Vec<u8>) 
     let mut after = buffer.to_vec();
     after[..shown.len()].copy_from_slice(&shown);
     (Replayed { number: 0, place: 0 }, after)
+}
+
+/// The answer to a class, with its moves as bytes; both buffers become what they are after it.
+pub fn class(
+    table: Table,
+    scripts: &[u8],
+    turns: &[u8],
+    answers: &mut [u8],
+    pictures: &mut [u8],
+) -> (u8, Vec<u8>) {
+    let begun = script::start(config(table), scripts);
+    if !begun.is_accepted() {
+        return (begun.number, Vec::new());
+    }
+    let mut journal = vec![0; JOURNAL];
+    let taken = script::class(&begun.value, &mut journal, scripts, turns, answers, pictures);
+    journal.truncate(3 * usize::from(taken.value.snapshot.applied));
+    (taken.number, journal)
 }
 
 /// The number that reading gets.

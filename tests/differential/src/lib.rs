@@ -1,6 +1,7 @@
 //! A safe wrapper over the static library of the proved machine (`include/humdayeg.h`), and in
 //! `expected` the same answers worked out by the package `independent`.
 
+pub mod classes;
 pub mod expected;
 pub mod sessions;
 
@@ -16,6 +17,20 @@ mod c {
             picture: *mut u8,
             picture_len: usize,
             place: *mut u32,
+        ) -> u8;
+        pub fn humdayeg_class(
+            p: u8,
+            t: u8,
+            m: u8,
+            b: u8,
+            scripts: *const u8,
+            scripts_len: usize,
+            turns: *const u8,
+            turns_len: usize,
+            answers: *mut u8,
+            answers_len: usize,
+            pictures: *mut u8,
+            pictures_len: usize,
         ) -> u8;
         pub fn humdayeg_read(picture: *const u8, picture_len: usize) -> u8;
         pub fn humdayeg_ahead(picture: *const u8, picture_len: usize, thread: u8) -> u8;
@@ -63,6 +78,35 @@ pub fn replay(table: Table, moves: &[u8], picture: &mut [u8]) -> Replayed {
         )
     };
     Replayed { number, place }
+}
+
+/// Takes the turns of a class under scripts from a start table, with the number of each turn in
+/// `answers` and the picture after each in `pictures`; refused as a whole, it writes nothing.
+pub fn class(
+    table: Table,
+    scripts: &[u8],
+    turns: &[u8],
+    answers: &mut [u8],
+    pictures: &mut [u8],
+) -> u8 {
+    let [p, t, m, b] = table;
+    // All four slices live through the call, which keeps none of them.
+    unsafe {
+        c::humdayeg_class(
+            p,
+            t,
+            m,
+            b,
+            scripts.as_ptr(),
+            scripts.len(),
+            turns.as_ptr(),
+            turns.len(),
+            answers.as_mut_ptr(),
+            answers.len(),
+            pictures.as_mut_ptr(),
+            pictures.len(),
+        )
+    }
 }
 
 /// The number that reading a picture gets.
