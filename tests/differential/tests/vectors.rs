@@ -1,7 +1,8 @@
-//! The stored vectors through the static library: pictures, turns, and the program's sessions
-//! with each answer worked out by a replay.
+//! The stored vectors through the static library: pictures, turns ahead, classes, and the
+//! program's sessions with each answer worked out by a replay.
 
-use differential::{ahead, read, replay, Ahead, Replayed, Table, MOST_PICTURE};
+use differential::{ahead, class, read, replay, Ahead, Replayed, Table, MOST_PICTURE};
+use std::collections::BTreeMap;
 use std::fs;
 use std::path::{Path, PathBuf};
 
@@ -120,6 +121,61 @@ fn turns() {
                 _ => panic!("{line}"),
             };
             assert_eq!(ahead(&picture, thread), wanted, "{} {line}", path.display());
+        }
+    }
+}
+
+fn table(words: &str) -> Table {
+    numbers(words).try_into().unwrap()
+}
+
+/// FNV-1a with 64 bits.
+fn hash(bytes: &[u8]) -> u64 {
+    let step = |hash: u64, &byte: &u8| (hash ^ u64::from(byte)).wrapping_mul(0x100_0000_01b3);
+    bytes.iter().fold(0xcbf2_9ce4_8422_2325, step)
+}
+
+#[test]
+fn classes() {
+    for path in files("classes", ".txt") {
+        let text = text(&path);
+        let (shown, fields): (Vec<_>, Vec<_>) =
+            text.lines().partition(|line| line.starts_with("picture "));
+        let fields: BTreeMap<&str, &str> =
+            fields.iter().map(|line| line.split_once(' ').unwrap()).collect();
+        let (table, turns) = (table(fields["table"]), unhex(fields["turns"]));
+        let [p, t, m, _] = table.map(usize::from);
+        let length = 8 + 12 * p + 8 * m + 4 * t;
+        let mut answers = vec![0; turns.len()];
+        let mut pictures = vec![0; length * turns.len()];
+        let scripts = unhex(fields["scripts"]);
+        assert_eq!(class(table, &scripts, &turns, &mut answers, &mut pictures), 0);
+        assert_eq!(answers, unhex(fields["answers"]), "{}", path.display());
+        for (got, wanted) in pictures.chunks(length).zip(&shown) {
+            assert_eq!(format!("picture {}", hex(got)), *wanted, "{}", path.display());
+        }
+        assert!(shown.is_empty() || shown.len() == turns.len());
+        assert_eq!(format!("{:016x}", hash(&pictures)), fields["hash"], "{}", path.display());
+    }
+}
+
+#[test]
+fn boundaries_of_classes() {
+    for path in files("classes", ".list") {
+        for line in text(&path).lines() {
+            let words: Vec<&str> = line.split(' ').collect();
+            let &[number, p, t, m, b, answers, pictures, scripts, turns] = &words[..] else {
+                panic!("{line}");
+            };
+            let table = [p, t, m, b].map(|word| word.parse().unwrap());
+            let mut answers = vec![0xa5; answers.parse().unwrap()];
+            let mut pictures = vec![0xa5; pictures.parse().unwrap()];
+            let (scripts, turns) = (unhex(scripts), unhex(turns));
+            let answer = class(table, &scripts, &turns, &mut answers, &mut pictures);
+            assert_eq!(answer, number.parse::<u8>().unwrap(), "{line}");
+            if answer != 0 {
+                assert!(answers.iter().chain(&pictures).all(|&byte| byte == 0xa5), "{line}");
+            }
         }
     }
 }

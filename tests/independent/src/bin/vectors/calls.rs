@@ -1,9 +1,10 @@
 //! Single calls on records and journals that the line program cannot reach.
 
-use crate::{states, turns, Folder};
-use independent::machine::Config;
+use crate::{field, states, turns, Folder};
+use independent::machine::{Config, CREATE, LOCK, TRYLOCK, UNLOCK, YIELD};
 use independent::picture::{self, hex, raw_bytes};
 use independent::record::{Record, Snapshot};
+use independent::script::{self, script, Call, SCRIPT};
 use independent::session::{self, JOURNAL};
 use independent::worked::{self, Worked};
 use std::fmt::Write;
@@ -28,9 +29,23 @@ fn undo_line(record: &Record, length: usize, moves: &[u8]) -> String {
     let mut journal = vec![FILLER; length];
     journal[..moves.len()].copy_from_slice(moves);
     let answer = session::undo(record, &journal);
-    let moves = if moves.is_empty() { "-".to_string() } else { hex(moves) };
+    let moves = field(moves);
     let (before, after) = (fields(record), fields(&answer.value));
     format!("{} {} {length} {moves} {before} {after}\n", answer.number, record.born)
+}
+
+fn turn_line(record: &Record, length: usize, moves: &[u8], scripts: &[u8], p: u8) -> String {
+    let mut journal = vec![FILLER; length];
+    journal[..moves.len()].copy_from_slice(moves);
+    let answer = script::turn(record, &mut journal, scripts, p);
+    let (moves, scripts) = (field(moves), field(scripts));
+    let made = match answer.number {
+        0 => hex(&journal[3 * usize::from(record.snapshot.applied)..][..3]),
+        _ => "-".to_string(),
+    };
+    let (before, after) = (fields(record), fields(&answer.value));
+    let (number, born) = (answer.number, record.born);
+    format!("{number} {born} {length} {moves} {scripts} {p} {before} {after} {made}\n")
 }
 
 fn front_line(record: &Record, length: usize) -> String {
@@ -185,6 +200,66 @@ fn undos() -> String {
     text
 }
 
+/// Scripts of three threads.
+fn three_scripts() -> Vec<u8> {
+    let calls: [&[Call]; 3] = [
+        &[[LOCK, 1], [UNLOCK, 1], [YIELD, 0]],
+        &[[LOCK, 1], [CREATE, 2], [UNLOCK, 1]],
+        &[[TRYLOCK, 1], [LOCK, 2]],
+    ];
+    calls.iter().flat_map(|calls| script(calls)).collect()
+}
+
+/// Turns on states of worked sessions, with scripts good and bad, with the session's journal and
+/// with half of it.
+fn turns_of_sessions() -> String {
+    let mut text = String::new();
+    let scripts = three_scripts();
+    let bad = &scripts[..2 * SCRIPT - 1];
+    for worked in [worked::k5(), worked::k6(), worked::k7()] {
+        for count in (0..=worked.moves.len()).step_by(2) {
+            let stood = worked.front(count);
+            let record = Record { snapshot: stood.snapshot(), born: stood.config.born };
+            let journal = stood.moves.concat();
+            for p in 0..=stood.config.processors + 1 {
+                text += &turn_line(&record, JOURNAL, &journal, &scripts, p);
+            }
+            text += &turn_line(&record, JOURNAL, &journal, bad, 0);
+            text += &turn_line(&record, JOURNAL - 1, &journal, bad, 0);
+            text += &turn_line(&record, JOURNAL, &journal[..journal.len() / 2], &scripts, 1);
+            text += &turn_line(&Record { born: 0, ..record }, JOURNAL, &journal, bad, 0);
+        }
+    }
+    text
+}
+
+fn turns_taken() -> String {
+    let mut text = turns_of_sessions();
+    let scripts = three_scripts();
+    // The same record by either processor's yield, and with no moves that replay.
+    for q in [1, 2] {
+        let yielded = Worked::new(Config::new(2, 2, 1, 2)).call(q, YIELD, 0).go(q, 1);
+        let record = Record { snapshot: yielded.snapshot(), born: 2 };
+        for p in [1, 2] {
+            text += &turn_line(&record, JOURNAL, &yielded.moves.concat(), &scripts, p);
+            text += &turn_line(&record, JOURNAL, &[], &scripts, p);
+        }
+    }
+    let bad_operand = script(&[[LOCK, 9]]);
+    for applied in [3_999, 4_000, 4_001] {
+        let record = worked::k10_record(applied);
+        for (scripts, p) in
+            [(&scripts[..], 1), (&scripts[..], 2), (&bad_operand[..], 1), (&scripts[..], 3)]
+        {
+            text += &turn_line(&record, JOURNAL, &[], scripts, p);
+        }
+    }
+    for (_, record, p) in worked::steps_out_of_rules() {
+        text += &turn_line(&record, JOURNAL, &[], &scripts, p);
+    }
+    text
+}
+
 fn fronts() -> String {
     let mut text = String::new();
     for applied in [0, 1, 2, 3_999, 4_000, 4_001] {
@@ -230,6 +305,7 @@ fn broken_turns() -> String {
 pub fn write_all(folder: &Folder) -> io::Result<()> {
     folder.write("move.list", moves().as_bytes())?;
     folder.write("undo.list", undos().as_bytes())?;
+    folder.write("turn.list", turns_taken().as_bytes())?;
     folder.write("front.list", fronts().as_bytes())?;
     folder.write("write.list", writes().as_bytes())?;
     folder.write("ahead.list", broken_turns().as_bytes())

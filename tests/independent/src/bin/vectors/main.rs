@@ -1,11 +1,13 @@
 //! Writes the test vectors into the folder given as argument.
 
 mod calls;
+mod classes;
 mod pictures;
 mod sessions;
 mod states;
 mod turns;
 
+use independent::picture::hex;
 use std::path::{Path, PathBuf};
 use std::{env, fs, io};
 
@@ -26,6 +28,14 @@ impl Folder {
     }
 }
 
+/// Bytes in hexadecimal, `-` for none.
+pub fn field(bytes: &[u8]) -> String {
+    match bytes {
+        [] => "-".to_string(),
+        _ => hex(bytes),
+    }
+}
+
 fn main() -> io::Result<()> {
     let Some(root) = env::args_os().nth(1) else {
         eprintln!("usage: vectors FOLDER");
@@ -35,5 +45,6 @@ fn main() -> io::Result<()> {
     pictures::write_all(&Folder::new(root, "pictures")?)?;
     sessions::write_all(&Folder::new(root, "sessions")?)?;
     turns::write_all(&Folder::new(root, "turns")?)?;
+    classes::write_all(&Folder::new(root, "classes")?)?;
     calls::write_all(&Folder::new(root, "calls")?)
 }
