@@ -3,12 +3,14 @@
 //! session are not in the library: the proved side of those lines is the program `measure`, whose
 //! path is in HUMDAYEG_MEASURE.
 
+use differential::classes::Class;
 use differential::sessions::{drive, Session};
-use differential::{expected, read, replay, MOST_PICTURE};
+use differential::{class, expected, read, replay, MOST_PICTURE};
 use independent::machine::{State, MOST_MOVES};
 use independent::picture;
-use independent::random::Rates;
+use independent::random::{Generator, Rates};
 use independent::record::{Record, Snapshot};
+use independent::script;
 use independent::session::{make_move, start, undo, JOURNAL};
 use std::env;
 use std::hint::black_box;
@@ -73,6 +75,53 @@ fn replay_in_rust(session: &Session, buffer: &mut [u8]) -> u8 {
         }
     }
     picture::write(&Snapshot::of(&state), buffer)
+}
+
+/// A class whose turns are all accepted, of as many as moves can stand.
+fn full_class(generator: &mut Generator) -> Class {
+    loop {
+        let config = generator.config();
+        let scripts = generator.scripts(config);
+        let mut turns = generator.turns(config, 2 * usize::from(MOST_MOVES));
+        let table = expected::table(config);
+        let class = Class { table, scripts: scripts.clone(), turns: turns.clone() };
+        let numbers = class.compare().answers;
+        let mut number = numbers.iter();
+        turns.retain(|_| number.next() == Some(&0));
+        if turns.len() == usize::from(MOST_MOVES) {
+            return Class { table, scripts, turns };
+        }
+    }
+}
+
+/// One pass over the turns: the state and each thread's place in its script are carried along.
+fn class_in_rust(class: &Class, answers: &mut [u8], pictures: &mut [u8]) -> u8 {
+    let Class { table, scripts, turns } = class;
+    let begun = script::start(expected::config(*table), scripts);
+    script::class(&begun.value, &mut [0; JOURNAL], scripts, turns, answers, pictures).number
+}
+
+/// The line on classes, each of 4,000 accepted turns.
+fn compare_classes() {
+    let most = usize::from(MOST_MOVES);
+    let mut generator = Generator::new(0);
+    let classes: Vec<Class> = (0..20).map(|_| full_class(&mut generator)).collect();
+    let (mut answers, mut pictures) = (vec![0; most], vec![0; most * MOST_PICTURE]);
+    let (mut others, mut shown) = (answers.clone(), pictures.clone());
+    compare(
+        "a turn of a class, its picture too",
+        most * classes.len(),
+        || {
+            for Class { table, scripts, turns } in &classes {
+                assert_eq!(class(*table, scripts, turns, &mut answers, &mut pictures), 0);
+            }
+        },
+        || {
+            for class in &classes {
+                assert_eq!(class_in_rust(black_box(class), &mut others, black_box(&mut shown)), 0);
+            }
+        },
+    );
 }
 
 /// What the program `measure` is to do in each round.
@@ -214,5 +263,6 @@ fn main() {
             }
         },
     );
+    compare_classes();
     compare_sessions(&sessions);
 }
