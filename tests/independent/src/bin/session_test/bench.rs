@@ -12,10 +12,22 @@
 //!   `recall`: the record alone is.
 //! - `change i v`: field i of the record becomes v. `write i v`: byte i of the journal does.
 //! - `noise seed`: the journal is filled. `#`: nothing.
+//!
+//! Of scripted threads, over a buffer of scripts and a list of turns, at first zero:
+//!
+//! - `init P T M B`: a scripted start; `turn p`: a turn. Both print what a start and a move do.
+//! - `drive n a q`: a class of the list's first n turns, lent a bytes of the answers and q of the
+//!   pictures. It prints what a move does, and numbers that stand for all answers and pictures.
+//! - `edit i a b c`: bytes i to i + 2 of the scripts become a, b, c. `order i a b c`: those of the
+//!   list do.
+//! - `use n`: so many of the scripts' bytes are lent from now on.
+//! - `yarn seed q`: the list is filled with numbers from 0 to q. `vary seed`: the answers and the
+//!   pictures are filled, as `noise` fills a journal.
 
 use independent::machine::{Config, Token};
 use independent::picture;
 use independent::record::{MutexRow, ProcessorRow, Record, Snapshot, ThreadRow};
+use independent::script;
 use independent::session::{self, JOURNAL};
 use independent::Answer;
 use std::fmt::Write;
@@ -24,6 +36,12 @@ use std::fmt::Write;
 pub const APPLIED: usize = 3;
 pub const BORN: usize = 4;
 pub const FIELDS: usize = 221;
+
+/// Lengths of the buffers of scripts, turns, answers and pictures.
+pub const SCRIPTS: usize = 420;
+pub const TURNS: usize = 128;
+pub const ANSWERS: usize = 130;
+pub const PICTURES: usize = 20_000;
 
 pub fn first(queue: usize) -> usize {
     5 + queue
@@ -144,11 +162,62 @@ fn mixed(word: u64, byte: u8) -> u64 {
     (257 * word + u64::from(byte) + 1) % 1_000_000_007
 }
 
+fn hash(bytes: &[u8]) -> u64 {
+    bytes.iter().fold(0, |hash, &byte| mixed(hash, byte))
+}
+
+/// Any bytes, from a seed.
+fn noise(seed: u16, bytes: &mut [u8]) {
+    let mut word = u64::from(seed);
+    for byte in bytes {
+        word = mixed(word, 0);
+        *byte = word as u8;
+    }
+}
+
+fn edit(bytes: &mut [u8], at: u16, new: [u8; 3]) {
+    bytes[usize::from(at)..][..3].copy_from_slice(&new);
+}
+
+/// What scripted threads need: how many bytes of the scripts are lent, and the four buffers.
+struct Scripted {
+    used: usize,
+    scripts: Vec<u8>,
+    turns: Vec<u8>,
+    answers: Vec<u8>,
+    pictures: Vec<u8>,
+}
+
+impl Scripted {
+    fn new() -> Scripted {
+        Scripted {
+            used: SCRIPTS,
+            scripts: vec![0; SCRIPTS],
+            turns: vec![0; TURNS],
+            answers: vec![0; ANSWERS],
+            pictures: vec![0; PICTURES],
+        }
+    }
+
+    fn yarn(&mut self, seed: u16, most: u8) {
+        noise(seed, &mut self.turns);
+        for turn in &mut self.turns {
+            *turn = (u16::from(*turn) % (u16::from(most) + 1)) as u8;
+        }
+    }
+
+    fn vary(&mut self, seed: u16) {
+        noise(seed, &mut self.answers);
+        noise(seed, &mut self.pictures);
+    }
+}
+
 struct Bench {
     fields: Fields,
     journal: Vec<u8>,
     kept: (Fields, Vec<u8>),
     lent: usize,
+    scripted: Scripted,
     out: String,
 }
 
@@ -157,7 +226,8 @@ impl Bench {
         let fields = Fields([0; FIELDS]);
         let journal = vec![0; JOURNAL + 1];
         let kept = (fields.clone(), journal.clone());
-        Bench { fields, journal, kept, lent: JOURNAL + 1, out: String::new() }
+        let scripted = Scripted::new();
+        Bench { fields, journal, kept, lent: JOURNAL + 1, scripted, out: String::new() }
     }
 
     fn line(&mut self, line: std::fmt::Arguments) {
@@ -174,14 +244,56 @@ impl Bench {
     }
 
     fn report(&mut self, answer: Option<Answer<Record>>, journal: &[u8]) {
+        let report = self.taken(answer, journal);
+        self.line(format_args!("{report}"));
+    }
+
+    /// Takes an answer's record: its refusal, whether a field changed, whether the journal did.
+    fn taken(&mut self, answer: Option<Answer<Record>>, journal: &[u8]) -> String {
         let (number, after) = match answer {
             None => (self.unreadable(), self.fields.clone()),
             Some(answer) => (answer.number, Fields::of(&answer.value)),
         };
         let record = u8::from(after != self.fields);
         let journal = u8::from(journal != self.journal);
-        self.line(format_args!("{number} {record} {journal}"));
         self.fields = after;
+        format!("{number} {record} {journal}")
+    }
+
+    fn init(&mut self, config: Config) {
+        let journal = self.journal.clone();
+        let scripts = &self.scripted.scripts[..self.scripted.used];
+        let answer = script::start(config, scripts);
+        self.report(Some(answer), &journal);
+    }
+
+    fn turn(&mut self, p: u8) {
+        let before = self.journal.clone();
+        let lent = &mut self.journal[..self.lent];
+        let scripts = &self.scripted.scripts[..self.scripted.used];
+        let record = self.fields.record();
+        let answer = record.map(|record| script::turn(&record, lent, scripts, p));
+        self.report(answer, &before);
+    }
+
+    fn drive(&mut self, [turns, answers, pictures]: [usize; 3]) {
+        let before = self.journal.clone();
+        let lent = &mut self.journal[..self.lent];
+        let all = &mut self.scripted;
+        let answer = self.fields.record().map(|record| {
+            script::class(
+                &record,
+                lent,
+                &all.scripts[..all.used],
+                &all.turns[..turns],
+                &mut all.answers[..answers],
+                &mut all.pictures[..pictures],
+            )
+        });
+        let report = self.taken(answer, &before);
+        let [answers, pictures] =
+            [&self.scripted.answers, &self.scripted.pictures].map(|b| hash(b));
+        self.line(format_args!("{report} {answers} {pictures}"));
     }
 
     fn make_move(&mut self, made: [u8; 3]) {
@@ -224,42 +336,40 @@ impl Bench {
         self.line(format_args!("{shown} {born}"));
     }
 
-    fn hash(&mut self) {
-        let hash = self.journal.iter().fold(0, |hash, &byte| mixed(hash, byte));
-        self.line(format_args!("{hash}"));
-    }
-
-    fn noise(&mut self, seed: u16) {
-        let mut word = u64::from(seed);
-        for byte in &mut self.journal {
-            word = mixed(word, 0);
-            *byte = word as u8;
-        }
-    }
-
     fn obey(&mut self, line: &str) {
         let numbers: Vec<u16> =
             line.split(' ').skip(1).map(|word| word.parse().unwrap_or(0)).collect();
         let number = |i: usize| numbers[i];
         let byte = |i: usize| u8::try_from(numbers[i]).unwrap();
+        let config = || Config::new(byte(0), byte(1), byte(2), byte(3));
         match line.as_bytes()[0] {
             b's' => {
                 let journal = self.journal.clone();
-                let config = Config::new(byte(0), byte(1), byte(2), byte(3));
-                self.report(Some(session::start(config)), &journal);
+                self.report(Some(session::start(config())), &journal);
             }
             b'm' => self.make_move([byte(0), byte(1), byte(2)]),
             b'b' => self.undo(),
             b'f' => self.front(),
             b'p' => self.picture(),
-            b'h' => self.hash(),
+            b'h' => {
+                let hash = hash(&self.journal);
+                self.line(format_args!("{hash}"));
+            }
             b'l' => self.lent = usize::from(number(0)),
             b'k' => self.kept = (self.fields.clone(), self.journal.clone()),
             b'a' => (self.fields, self.journal) = self.kept.clone(),
             b'r' => self.fields = self.kept.0.clone(),
             b'c' => self.fields.change(usize::from(number(0)), number(1)),
             b'w' => self.journal[usize::from(number(0))] = byte(1),
-            b'n' => self.noise(number(0)),
+            b'n' => noise(number(0), &mut self.journal),
+            b'i' => self.init(config()),
+            b't' => self.turn(byte(0)),
+            b'd' => self.drive([0, 1, 2].map(|i| usize::from(number(i)))),
+            b'e' => edit(&mut self.scripted.scripts, number(0), [byte(1), byte(2), byte(3)]),
+            b'o' => edit(&mut self.scripted.turns, number(0), [byte(1), byte(2), byte(3)]),
+            b'u' => self.scripted.used = usize::from(number(0)),
+            b'y' => self.scripted.yarn(number(0), byte(1)),
+            b'v' => self.scripted.vary(number(0)),
             b'#' => {}
             _ => panic!("no such command: {line}"),
         }

@@ -1,6 +1,7 @@
 //! The script: the sessions of document 01, and each refusal at its boundaries.
 
 use crate::bench::{first, mutex, processor, thread, Fields, APPLIED, BORN, FIELDS};
+use crate::scripted;
 use independent::machine::{
     Config, Move, Position, State, CREATE, EXIT, GO, LOCK, TRYLOCK, UNLOCK, YIELD,
 };
@@ -11,23 +12,28 @@ use independent::worked::{self, Worked};
 use std::fmt::Write;
 
 /// The least length of a journal, one byte less and one more.
-const LENGTHS: [usize; 3] = [JOURNAL - 1, JOURNAL, JOURNAL + 1];
-const MOST: u16 = 4_000;
+pub const LENGTHS: [usize; 3] = [JOURNAL - 1, JOURNAL, JOURNAL + 1];
+pub const MOST: u16 = 4_000;
 
 #[derive(Default)]
-struct Script(String);
+pub struct Script(String);
 
 impl Script {
-    fn say(&mut self, line: &str) {
+    pub fn say(&mut self, line: &str) {
         self.0.push_str(line);
         self.0.push('\n');
     }
 
-    fn all(&mut self, lines: &[&str]) {
+    /// Adds whole lines.
+    pub fn raw(&mut self, lines: &str) {
+        self.0.push_str(lines);
+    }
+
+    pub fn all(&mut self, lines: &[&str]) {
         lines.iter().for_each(|line| self.say(line));
     }
 
-    fn start(&mut self, config: Config) {
+    pub fn start(&mut self, config: Config) {
         let Config { processors, threads, mutexes, born } = config;
         writeln!(self.0, "start {processors} {threads} {mutexes} {born}").unwrap();
     }
@@ -36,25 +42,25 @@ impl Script {
         writeln!(self.0, "move {p} {a} {o}").unwrap();
     }
 
-    fn change(&mut self, field: usize, value: u16) {
+    pub fn change(&mut self, field: usize, value: u16) {
         writeln!(self.0, "change {field} {value}").unwrap();
     }
 
-    fn write(&mut self, at: usize, byte: u8) {
+    pub fn write(&mut self, at: usize, byte: u8) {
         writeln!(self.0, "write {at} {byte}").unwrap();
     }
 
-    fn lend(&mut self, length: usize) {
+    pub fn lend(&mut self, length: usize) {
         writeln!(self.0, "lend {length}").unwrap();
     }
 
-    fn played(&mut self, worked: &Worked) {
+    pub fn played(&mut self, worked: &Worked) {
         self.start(worked.config);
         worked.moves.iter().for_each(|&made| self.make(made));
     }
 
     /// A move in its short form.
-    fn short(&mut self, [p, a, o]: Move) {
+    pub fn short(&mut self, [p, a, o]: Move) {
         writeln!(self.0, "m {p} {a} {o}").unwrap();
     }
 
@@ -65,7 +71,7 @@ impl Script {
     }
 
     /// Sets all fields that differ from the all-zero record's, which a refused start gives.
-    fn load(&mut self, record: &Record) {
+    pub fn load(&mut self, record: &Record) {
         self.start(Config::new(0, 0, 0, 0));
         let fields = Fields::of(record);
         for i in (0..FIELDS).filter(|&i| fields.at(i) != 0) {
@@ -566,8 +572,8 @@ fn full(s: &mut Script) {
     }
 }
 
-/// The whole script.
-pub fn whole() -> String {
+/// The whole script, with or without its part on scripted threads.
+pub fn whole(with_scripted: bool) -> String {
     let mut script = Script::default();
     let s = &mut script;
     starts(s);
@@ -582,5 +588,8 @@ pub fn whole() -> String {
     other_journals(s);
     random_sessions(s);
     longest(s);
+    if with_scripted {
+        scripted::add(s);
+    }
     script.0
 }

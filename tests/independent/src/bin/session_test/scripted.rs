@@ -1,0 +1,483 @@
+//! The script's part on scripted threads: 19 at its boundaries, the order of refusals, which call
+//! is next, classes and their buffers.
+
+use crate::bench::{processor, ANSWERS, APPLIED, BORN, PICTURES, SCRIPTS, TURNS};
+use crate::script::{Script, LENGTHS, MOST};
+use independent::machine::{Config, CREATE, EXIT, LOCK, TRYLOCK, UNLOCK, YIELD};
+use independent::picture;
+use independent::random::Generator;
+use independent::script::{script, Call, SCRIPT};
+use independent::session::JOURNAL;
+use independent::worked::{self, Worked};
+use std::fmt::Write;
+
+/// Writes the script, and knows what it has put into the buffers.
+struct Writer<'a> {
+    s: &'a mut Script,
+    scripts: [u8; SCRIPTS],
+    turns: [u8; TURNS],
+}
+
+fn picture_length(config: Config) -> usize {
+    picture::length(config.processors, config.threads, config.mutexes)
+}
+
+/// Lines that change bytes to others, three at a time, where they differ.
+fn changes(word: &str, old: &mut [u8], new: &[u8]) -> String {
+    let mut text = String::new();
+    for at in (0..new.len()).step_by(3) {
+        let at = at.min(old.len() - 3);
+        let three: Vec<u8> = (at..at + 3).map(|i| *new.get(i).unwrap_or(&old[i])).collect();
+        if old[at..at + 3] != three {
+            old[at..at + 3].copy_from_slice(&three);
+            let &[a, b, c] = &three[..] else { unreachable!() };
+            writeln!(text, "{word} {at} {a} {b} {c}").unwrap();
+        }
+    }
+    text
+}
+
+impl Writer<'_> {
+    fn say(&mut self, line: &str) {
+        self.s.say(line);
+    }
+
+    fn all(&mut self, lines: &[&str]) {
+        self.s.all(lines);
+    }
+
+    fn init(&mut self, config: Config) {
+        let Config { processors, threads, mutexes, born } = config;
+        self.say(&format!("init {processors} {threads} {mutexes} {born}"));
+    }
+
+    /// Puts scripts, as bytes, at the front of their buffer.
+    fn scripts(&mut self, bytes: &[u8]) {
+        let lines = changes("e", &mut self.scripts, bytes);
+        self.s.raw(&lines);
+    }
+
+    fn calls(&mut self, scripts: &[&[Call]]) {
+        let bytes: Vec<u8> = scripts.iter().flat_map(|calls| script(calls)).collect();
+        self.scripts(&bytes);
+    }
+
+    fn script_byte(&mut self, at: usize, byte: u8) {
+        let mut bytes = self.scripts;
+        bytes[at] = byte;
+        self.scripts(&bytes);
+    }
+
+    fn order(&mut self, turns: &[u8]) {
+        let lines = changes("o", &mut self.turns, turns);
+        self.s.raw(&lines);
+    }
+
+    fn lend_scripts(&mut self, length: usize) {
+        self.say(&format!("use {length}"));
+    }
+
+    fn turns(&mut self, processors: &[u8]) {
+        for p in processors {
+            self.say(&format!("t {p}"));
+        }
+    }
+
+    /// A class of so many turns, both buffers of just the length needed.
+    fn drive(&mut self, config: Config, turns: usize) {
+        self.drive_in(turns, turns, turns * picture_length(config));
+    }
+
+    fn drive_in(&mut self, turns: usize, answers: usize, pictures: usize) {
+        self.say(&format!("drive {turns} {answers} {pictures}"));
+    }
+
+    /// A start, a turn and a class with the scripts as they are, all from what was kept.
+    fn probe(&mut self, config: Config) {
+        self.init(config);
+        self.all(&["a", "t 1", "a"]);
+        self.drive(config, 2);
+        self.say("a");
+    }
+}
+
+/// 19: the lengths of the scripts' buffer.
+fn lengths(w: &mut Writer) {
+    for config in [Config::new(1, 1, 1, 1), Config::new(2, 3, 1, 2), Config::new(8, 32, 8, 32)] {
+        w.say(&format!("# 19: scripts' bytes with {} threads", config.threads));
+        w.s.start(config);
+        w.say("keep");
+        let whole = SCRIPT * usize::from(config.threads);
+        for length in [0, 1, whole - SCRIPT, whole - 1, whole, whole + 1, SCRIPTS] {
+            w.lend_scripts(length);
+            w.probe(config);
+        }
+    }
+}
+
+/// 19: numbers of calls and actions, read and unread, of the first and the last thread; those of
+/// the thread after it are not looked at.
+fn numbers_and_actions(w: &mut Writer) {
+    let config = Config::new(2, 3, 1, 2);
+    w.s.start(config);
+    w.say("keep");
+    for thread in [1, 3, 4] {
+        w.say(&format!("# 19: the script of thread {thread} of 3"));
+        let at = SCRIPT * (thread - 1);
+        let yields = [[YIELD, 0]; 6];
+        w.calls(&[&yields[..2], &yields[..2], &yields[..2], &yields[..2]]);
+        for number in [0, 1, 3, 7, 255] {
+            w.script_byte(at, number);
+            w.probe(config);
+        }
+        w.calls(&[&yields, &yields, &yields, &yields]);
+        for number in [5, 6, 7, 128] {
+            w.script_byte(at, number);
+            w.probe(config);
+        }
+        for number in [2, 5, 6] {
+            w.calls(&[&yields, &yields, &yields, &yields]);
+            w.script_byte(at, number);
+            for pair in [0, usize::from(number) - 1, usize::from(number).min(5)] {
+                for action in [0, 1, 6, 7, 255] {
+                    w.script_byte(at + 1 + 2 * pair, action);
+                    w.probe(config);
+                }
+                w.script_byte(at + 1 + 2 * pair, YIELD);
+            }
+        }
+    }
+    w.say("# operands are not looked at by 19");
+    for operand in [0, 1, 2, 255] {
+        w.calls(&[&[[LOCK, operand], [YIELD, operand]], &[[CREATE, operand]], &[[EXIT, operand]]]);
+        w.probe(config);
+        w.all(&["t 2", "a"]);
+    }
+}
+
+/// 1 before 19 at a start; 10, 15, 19, 2, 3, 8 at a turn.
+fn order_at_turns(w: &mut Writer) {
+    w.say("# 1, then 19");
+    w.scripts(&[0; SCRIPTS]);
+    for length in [0, SCRIPTS] {
+        w.lend_scripts(length);
+        for (p, t, m, b) in [(9, 3, 1, 2), (0, 3, 1, 2), (2, 0, 1, 1), (2, 33, 1, 2), (2, 3, 1, 4)]
+        {
+            w.init(Config::new(p, t, m, b));
+            w.say("picture");
+        }
+        w.init(Config::new(2, 3, 1, 2));
+        w.say("picture");
+    }
+    w.say("# 10, 15, 19, 2, 3, 8, 6");
+    w.say("noise 11");
+    let config = Config::new(2, 3, 1, 2);
+    w.calls(&[&[[LOCK, 2]], &[[UNLOCK, 1]], &[]]);
+    w.s.start(config);
+    w.say("keep");
+    for (applied, born) in [(0, 2), (0, 3), (0, 4), (MOST, 2), (MOST, 0), (MOST + 1, 2)] {
+        for scripts in [3 * SCRIPT - 1, 3 * SCRIPT] {
+            for journal in [JOURNAL - 1, JOURNAL] {
+                w.s.lend(journal);
+                w.lend_scripts(scripts);
+                for p in [0, 1, 2, 3] {
+                    w.say(&format!("c {APPLIED} {applied}"));
+                    w.say(&format!("c {BORN} {born}"));
+                    w.turns(&[p]);
+                    w.say("a");
+                }
+            }
+        }
+    }
+    w.s.lend(JOURNAL + 1);
+    w.say("# 15 at a row 0 and at steps");
+    w.s.change(processor(0, 0), 1);
+    w.turns(&[0, 1]);
+    for (_, record, p) in worked::steps_out_of_rules() {
+        w.s.load(&record);
+        w.turns(&[p, 9]);
+    }
+}
+
+/// A session of turns, its pictures now and then, and all of it back.
+fn taken(w: &mut Writer, name: &str, config: Config, scripts: &[&[Call]], turns: &[u8]) {
+    w.say(&format!("# {name}"));
+    w.calls(scripts);
+    w.lend_scripts(SCRIPT * scripts.len());
+    w.init(config);
+    w.say("keep");
+    for (count, &p) in (1..).zip(turns) {
+        w.turns(&[p]);
+        if count % 8 == 0 {
+            w.say("p");
+        }
+    }
+    w.all(&["p", "front", "hash"]);
+    w.all(&["back", "back", "back"]);
+    w.turns(&turns[..3]);
+    w.all(&["p", "hash", "a"]);
+    w.say("vary 3");
+    w.order(turns);
+    w.drive(config, turns.len());
+    w.all(&["p", "front", "hash"]);
+}
+
+fn next_calls(w: &mut Writer) {
+    let locks: &[Call] = &[[LOCK, 1], [UNLOCK, 1], [TRYLOCK, 1], [YIELD, 0], [UNLOCK, 1]];
+    let config = Config::new(2, 2, 1, 2);
+    let k5: Vec<u8> = worked::k5().moves.iter().map(|made| made[0]).collect();
+    taken(w, "K5 by scripts", config, &[&locks[..2], &locks[..1]], &k5);
+    let none: &[Call] = &[];
+    taken(w, "scripts without calls", Config::new(2, 3, 1, 3), &[none; 3], &[1, 2].repeat(6));
+    for count in 0..=6 {
+        let config = Config::new(1, 1, 1, 1);
+        let calls = [[LOCK, 1], [UNLOCK, 1], [YIELD, 0], [TRYLOCK, 1], [UNLOCK, 1], [YIELD, 0]];
+        taken(w, "a script to its end", config, &[&calls[..count]], &vec![1; 2 * count + 4]);
+    }
+    let yields: &[Call] =
+        &[[YIELD, 0], [LOCK, 1], [YIELD, 0], [UNLOCK, 1], [YIELD, 0], [TRYLOCK, 1]];
+    let migrating = [1, 1, 2, 1, 2, 2, 2, 1, 1, 1, 2].repeat(9);
+    taken(w, "threads that migrate", Config::new(2, 3, 1, 3), &[yields; 3], &migrating);
+    let creates: [&[Call]; 4] =
+        [&[[CREATE, 2], [YIELD, 0]], &[[CREATE, 3]], &[[YIELD, 0], [CREATE, 4]], &[[YIELD, 0]]];
+    taken(w, "creates", Config::new(2, 4, 1, 1), &creates, &[1, 2, 1].repeat(16));
+    let refused: [&[Call]; 4] =
+        [&[[UNLOCK, 1]], &[[YIELD, 0], [LOCK, 2]], &[[CREATE, 3]], &[[LOCK, 1], [EXIT, 0]]];
+    let turns = [0, 1, 2, 3, 4, 5, 255, 1, 2, 2, 3, 4, 4, 1, 2, 3, 4, 4, 3, 2, 1];
+    taken(w, "refused turns", Config::new(4, 4, 1, 4), &refused, &turns);
+}
+
+/// A create that another has made is refused until that one is stepped back.
+fn tried_again(w: &mut Writer) {
+    w.say("# a refused call stays next");
+    w.calls(&[&[[CREATE, 3], [LOCK, 1]], &[[CREATE, 3]], &[]]);
+    w.lend_scripts(3 * SCRIPT);
+    w.init(Config::new(3, 3, 1, 2));
+    w.turns(&[2, 1, 2, 3, 3, 1]);
+    for _ in 0..4 {
+        w.say("back");
+        w.turns(&[1]);
+    }
+    w.turns(&[2, 1, 1]);
+    w.all(&["front", "picture"]);
+}
+
+/// Calls by plain moves count; goes and refused moves do not.
+fn plain_calls(w: &mut Writer) {
+    w.say("# calls by plain moves");
+    w.calls(&[&[[LOCK, 1], [UNLOCK, 1], [YIELD, 0], [LOCK, 1]], &[[CREATE, 3]], &[]]);
+    let config = Config::new(2, 3, 1, 2);
+    w.init(config);
+    w.all(&["move 1 1 1", "move 1 0 0", "move 1 0 0"]);
+    w.turns(&[1]);
+    w.all(&["move 1 0 0", "move 1 2 1", "move 1 4 0", "move 1 0 0", "keep"]);
+    w.turns(&[1, 1, 1]);
+    w.all(&["front", "again"]);
+    w.order(&[1, 2, 1, 2, 1, 1, 2]);
+    w.drive(config, 7);
+    w.all(&["front", "again", "move 1 4 0", "move 1 0 0", "move 1 5 0"]);
+    w.drive(config, 7);
+    w.say("front");
+}
+
+/// The same record with two journals, and with journals that do not replay: a turn counts the
+/// calls before the first refused move, a class is refused by 16.
+fn journals(w: &mut Writer) {
+    w.say("# one record, other journals");
+    let config = Config::new(2, 2, 1, 2);
+    w.calls(&[&[[YIELD, 0], [LOCK, 1]], &[[YIELD, 0], [TRYLOCK, 1]]]);
+    w.lend_scripts(2 * SCRIPT);
+    w.order(&[1, 2, 2]);
+    for p in [1, 2] {
+        for next in [1, 2] {
+            w.say("noise 12");
+            w.init(config);
+            w.turns(&[p, p, next]);
+            w.say("front");
+        }
+    }
+    w.say("noise 13");
+    w.s.played(&Worked::new(config).call(2, YIELD, 0).go(2, 1).call(2, YIELD, 0).go(2, 1));
+    w.say("keep");
+    let edits: [&[(usize, u8)]; 7] = [
+        &[],
+        &[(0, 1), (3, 1)],
+        &[(0, 1), (3, 1), (6, 1), (9, 1)],
+        &[(0, 1), (3, 1), (6, 1), (7, 9)],
+        &[(0, 9)],
+        &[(10, 4)],
+        &[(12, 77)],
+    ];
+    for edit in edits {
+        for p in [1, 2] {
+            for &(at, byte) in edit {
+                w.s.write(at, byte);
+            }
+            w.turns(&[p]);
+            w.all(&["front", "a"]);
+        }
+        for &(at, byte) in edit {
+            w.s.write(at, byte);
+        }
+        w.drive(config, 3);
+        w.all(&["front", "a"]);
+    }
+    w.say("# another B, another number of moves");
+    for (field, value) in [(BORN, 1), (APPLIED, 0), (APPLIED, 3), (APPLIED, 5)] {
+        w.s.change(field, value);
+        w.turns(&[1]);
+        w.all(&["hash", "a"]);
+        w.s.change(field, value);
+        w.drive(config, 3);
+        w.all(&["hash", "a"]);
+    }
+}
+
+/// 10, 15, 10, 16, 19 at a class: each cause alone and with all that come after it.
+fn order_at_classes(w: &mut Writer) {
+    w.say("# 10, 15, 10, 16, 19");
+    let k7 = worked::k7();
+    let pictures = 3 * picture_length(k7.config);
+    w.say("noise 14");
+    w.s.played(&k7);
+    w.say("keep");
+    w.calls(&[&[], &[[LOCK, 1]], &[[YIELD, 0]]]);
+    w.order(&[1, 2, 3]);
+    for from in 0..=5 {
+        for only in [true, false] {
+            let there = |cause: usize| cause == from || !only && cause > from;
+            w.s.lend(if there(0) { JOURNAL - 1 } else { JOURNAL });
+            if there(1) {
+                w.s.change(BORN, 0);
+            }
+            if there(3) {
+                w.s.write(4, 7);
+            }
+            w.lend_scripts(if there(4) { 3 * SCRIPT - 1 } else { 3 * SCRIPT });
+            let room = if there(2) { pictures - 1 } else { pictures };
+            w.drive_in(3, 3, room);
+            w.all(&["p", "hash", "again"]);
+        }
+    }
+    w.s.lend(JOURNAL + 1);
+}
+
+/// Buffers exact, a byte short, longer; bytes after what is written are kept.
+fn buffers(w: &mut Writer) {
+    w.say("# buffers of a class");
+    for (config, turns) in [
+        (Config::new(1, 1, 1, 1), 5),
+        (Config::new(2, 3, 1, 3), TURNS),
+        (Config::new(8, 32, 8, 20), PICTURES / 296),
+    ] {
+        let length = picture_length(config);
+        let scripts = Generator::new(turns as u64).scripts(config);
+        w.scripts(&scripts[..SCRIPT * usize::from(config.threads)]);
+        w.lend_scripts(SCRIPTS);
+        w.say(&format!("yarn {turns} {}", config.processors + 1));
+        w.turns = [255; TURNS];
+        w.init(config);
+        w.say("keep");
+        let pictures = turns * length;
+        for (answers, pictures) in [
+            (turns, pictures),
+            (turns, pictures - 1),
+            (turns - 1, pictures),
+            (turns + 1, pictures + 1),
+            (ANSWERS, PICTURES),
+            (0, PICTURES),
+            (ANSWERS, 0),
+        ] {
+            w.say("vary 5");
+            w.drive_in(turns, answers, pictures);
+            w.all(&["p", "hash", "a"]);
+        }
+        for count in [0, 1, 2] {
+            w.drive_in(count, count, count * length);
+            w.drive_in(count, 0, 0);
+            w.all(&["front", "a"]);
+        }
+    }
+}
+
+/// Random scripts, several classes one after the other, plain moves and steps back between them.
+fn random_classes(w: &mut Writer) {
+    for (seed, (p, t, m, b)) in
+        (1..).zip([(2, 3, 1, 3), (3, 5, 2, 3), (4, 4, 1, 4), (5, 9, 2, 9), (8, 32, 8, 20)])
+    {
+        let config = Config::new(p, t, m, b);
+        w.say(&format!("# random class {seed}"));
+        let mut generator = Generator::new(seed);
+        let scripts = generator.scripts(config);
+        w.scripts(&scripts[..SCRIPT * usize::from(t)]);
+        w.lend_scripts(SCRIPT * usize::from(t));
+        w.say(&format!("noise {seed}"));
+        w.init(config);
+        for part in 1..=8 {
+            let most = TURNS.min(PICTURES / picture_length(config));
+            let turns = 1 + generator.below(most);
+            w.say(&format!("yarn {} {}", 10 * seed + part, p + generator.between(0, 1)));
+            w.drive(config, turns);
+            w.all(&["p", "hash"]);
+            match part % 3 {
+                0 => w.all(&["back", "back", "back"]),
+                1 => w.turns(&[1, 2, 1]),
+                _ => w.all(&["m 1 0 0", "m 1 4 0", "m 2 0 0", "m 2 5 0"]),
+            }
+        }
+        w.say("front");
+    }
+    w.turns = [255; TURNS];
+}
+
+/// The end of 4,000 moves: turns and classes that reach it, and what comes before 8.
+fn at_the_end(w: &mut Writer) {
+    w.say("# 3,996 moves by classes");
+    let config = Config::new(2, 1, 1, 1);
+    w.calls(&[&[[YIELD, 0], [LOCK, 2]]]);
+    w.lend_scripts(SCRIPT);
+    w.init(config);
+    w.order(&[2; TURNS]);
+    let mut left = usize::from(MOST) - 4;
+    while left > 0 {
+        w.drive(config, left.min(TURNS));
+        left -= left.min(TURNS);
+    }
+    w.all(&["p", "hash", "keep"]);
+    w.say("# the last moves by turns");
+    w.turns(&[1, 1, 1, 2, 2, 2, 1, 0, 3]);
+    w.all(&["p", "hash", "back"]);
+    w.turns(&[1, 2, 2]);
+    w.all(&["hash", "again"]);
+    for turns in [&[1, 1, 1, 2, 2, 2, 1, 0, 3, 255][..], &[2; 6], &[1, 2, 2]] {
+        w.say("vary 6");
+        w.order(turns);
+        w.drive(config, turns.len());
+        w.all(&["p", "hash"]);
+        w.drive(config, turns.len());
+        w.all(&["p", "hash", "again"]);
+    }
+    for length in LENGTHS {
+        w.s.lend(length);
+        w.turns(&[2]);
+        w.drive(config, 3);
+        w.all(&["hash", "again"]);
+    }
+    w.s.lend(JOURNAL + 1);
+}
+
+/// All of it, behind the rest of the script.
+pub fn add(s: &mut Script) {
+    let w = &mut Writer { s, scripts: [0; SCRIPTS], turns: [0; TURNS] };
+    lengths(w);
+    numbers_and_actions(w);
+    order_at_turns(w);
+    next_calls(w);
+    tried_again(w);
+    plain_calls(w);
+    journals(w);
+    order_at_classes(w);
+    buffers(w);
+    random_classes(w);
+    at_the_end(w);
+}
