@@ -251,6 +251,22 @@ static void classes(void) {
     check(class_in(TWO, LOCKS, sizeof LOCKS, turns, 0, 0, 0) == 0, "a class of no turns");
 }
 
+/* Two threads share a processor and yield to each other (Y1, Y2, Y3, CI2, CI3); each goes on
+   with its own script. */
+static void yielding(void) {
+    static const uint8_t scripts[] = {2, 4, 0, 1, 1, 0, 0, 0, 0, 0, 0, 0, 0,
+                                      2, 4, 0, 2, 1, 0, 0, 0, 0, 0, 0, 0, 0};
+    static const struct table s = {1, 2, 1, 2};
+    static const uint8_t made[] = {1, 4, 0, 1, 0, 0, 1, 0, 0, 1, 0, 0, 1, 0, 0, 1, 0, 0,
+                                   1, 4, 0, 1, 0, 0, 1, 0, 0, 1, 0, 0, 1, 0, 0, 1, 0, 0,
+                                   1, 1, 1};
+    uint8_t turns[sizeof made / 3];
+    memset(turns, 1, sizeof turns);
+    check(class(s, scripts, sizeof scripts, turns, sizeof turns) == 0, "yields are taken");
+    for (size_t i = 0; i < sizeof turns; i++)
+        check(answers[i] == 0 && shows(s, i, made, 3 * (i + 1)), "each thread has its own place");
+}
+
 /* Refused turns between accepted ones: the picture stays and the call is tried again. */
 static void refused_turns(void) {
     static const uint8_t scripts[] = {1, 3, 1, 0, 0, 0, 0, 0, 0, 0, 0, 0, 0,
@@ -321,8 +337,10 @@ static void scripts_refused(void) {
         check(class_with(at + 2, 255) == 0, "an operand is not looked at");
         check(class_with(at + 11, 1) == 0 && class_with(at + 12, 0) == 0, "unread bytes");
     }
-    static const uint8_t six[] = {6, 4, 0, 4, 0, 4, 0, 4, 0, 4, 0, 5, 0};
-    check(class(ONE, six, sizeof six, turns, 1) == 0, "six calls");
+    uint8_t yields[] = {6, 4, 0, 4, 0, 4, 0, 4, 0, 4, 0, 4, 0};
+    check(class(ONE, yields, sizeof yields, turns, 1) == 0, "six calls");
+    yields[0] = 7;
+    check(class(ONE, yields, sizeof yields, turns, 1) == HUMDAYEG_BAD_SCRIPT, "a seventh call");
 }
 
 static void class_buffers(void) {
@@ -351,6 +369,7 @@ int main(void) {
     reading();
     turns();
     classes();
+    yielding();
     refused_turns();
     most_turns();
     scripts_refused();
