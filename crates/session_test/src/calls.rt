@@ -11,7 +11,7 @@ fn text(bytes: &[u8]) {
 }
 
 // A number and what stands after it.
-fn number(n: u64, after: &[u8]) {
+pub(crate) fn number(n: u64, after: &[u8]) {
     io::print_decimal(STDOUT_FILENO, n);
     io::write_all(STDOUT_FILENO, after);
 }
@@ -27,13 +27,13 @@ fn hex(bytes: &[u8]) {
     }
 }
 
-fn put(to: &mut [u8], i: usize, b: u8) {
+pub(crate) fn put(to: &mut [u8], i: usize, b: u8) {
     if i < to.len() {
         to[i] = b;
     }
 }
 
-fn copy(from: &[u8], to: &mut [u8]) {
+pub(crate) fn copy(from: &[u8], to: &mut [u8]) {
     for i in 0..from.len() {
         put(to, i, from[i]);
     }
@@ -48,7 +48,7 @@ fn low_byte(x: u64) -> u8 {
 }
 
 // Any bytes, from a seed.
-fn noise(seed: u16, journal: &mut [u8]) {
+pub(crate) fn noise(seed: u16, journal: &mut [u8]) {
     let mut x = seed as u64;
     for i in 0..journal.len() {
         x = mixed(x, 0);
@@ -57,7 +57,7 @@ fn noise(seed: u16, journal: &mut [u8]) {
 }
 
 // A number that stands for all bytes.
-fn hash(bytes: &[u8]) -> u64 {
+pub(crate) fn hash(bytes: &[u8]) -> u64 {
     let mut x: u64 = 0;
     for i in 0..bytes.len() {
         x = mixed(x, bytes[i]);
@@ -81,13 +81,17 @@ fn picture(session: Session) {
     number(session.initial as u64, b"\n");
 }
 
-// Prints the refusal, whether a field of the record changed, and whether a byte of the journal did.
-fn reported(was: Session, answer: Answer, alike: bool) -> Session {
+// Prints the refusal, whether a field of the record changed, whether a byte of the journal did, and what stands after them.
+pub(crate) fn told(was: Session, answer: Answer, alike: bool, after: &[u8]) -> Session {
     let session = answer.session;
     number(answer.refusal as u64, b" ");
     number(!same(was, session) as u64, b" ");
-    number(!alike as u64, b"\n");
+    number(!alike as u64, after);
     session
+}
+
+pub(crate) fn reported(was: Session, answer: Answer, alike: bool) -> Session {
+    told(was, answer, alike, b"\n")
 }
 
 fn start(session: Session, line: Line) -> Session {
@@ -136,12 +140,12 @@ fn look(session: Session, lent: isize, line: Line, journal: &mut [u8], kept: &mu
         b'w' => put(journal, line.number(1) as usize, line.byte(2)),
         b'n' => noise(line.number(1), journal),
         b'k' => copy(journal, kept),
-        b'l' | b'#' => {}
+        b'l' | b'u' | b'#' => {}
         _ => text(b"?\n"),
     }
 }
 
-// Obeys a line, whose word's first letter names the command. stored: the record that was kept; lent: how many bytes of the journal are lent.
+// Obeys a line on plain sessions, whose word's first letter names the command. stored: the record that was kept; lent: how many bytes of the journal are lent.
 pub(crate) fn obey(
     session: Session,
     stored: Session,

@@ -1,6 +1,5 @@
 //! Writes the script of the program `session_test` and the answers it must give, as the files
-//! `stdin` and `stdout` of the folder given as argument; with the word `scripted` after it, the
-//! calls of scripted threads as well.
+//! `stdin` and `stdout` of the folder given as argument.
 
 mod bench;
 mod script;
@@ -11,11 +10,11 @@ use std::{env, fs, io};
 
 fn main() -> io::Result<()> {
     let Some(folder) = env::args_os().nth(1) else {
-        eprintln!("usage: session_test FOLDER [scripted]");
+        eprintln!("usage: session_test FOLDER");
         std::process::exit(2);
     };
     let folder = Path::new(&folder);
-    let script = script::whole(env::args_os().nth(2).is_some_and(|word| word == "scripted"));
+    let script = script::whole();
     fs::create_dir_all(folder)?;
     fs::write(folder.join("stdout"), bench::answers(&script))?;
     fs::write(folder.join("stdin"), script)

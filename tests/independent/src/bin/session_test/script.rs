@@ -572,8 +572,8 @@ fn full(s: &mut Script) {
     }
 }
 
-/// The whole script, with or without its part on scripted threads.
-pub fn whole(with_scripted: bool) -> String {
+/// The whole script.
+pub fn whole() -> String {
     let mut script = Script::default();
     let s = &mut script;
     starts(s);
@@ -588,8 +588,6 @@ pub fn whole(with_scripted: bool) -> String {
     other_journals(s);
     random_sessions(s);
     longest(s);
-    if with_scripted {
-        scripted::add(s);
-    }
+    scripted::add(s);
     script.0
 }
