@@ -70,8 +70,8 @@ pub fn turn(session: Session, journal: &mut [u8], scripts: &[u8], p: u8) -> Answ
         };
     }
     let state = session.state;
-    let ok = scripts_ok(state.t, scripts);
-    if ok {
+    let scripted = scripts_ok(state.t, scripts);
+    if scripted {
         let a = next_move(session, journal, scripts, p);
         return make_move(session, journal, p, a.action, a.operand);
     }
