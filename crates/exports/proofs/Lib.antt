@@ -2,3 +2,4 @@
 pub mod Replayed
 pub mod Answers
 pub mod Ahead
+pub mod Class

@@ -1,4 +1,5 @@
 -- What the functions that C programs call answer.
 pub mod Replay
 pub mod Turns
+pub mod Class
 pub mod Model

@@ -5,6 +5,7 @@ ghost use Rattle.session.specs.Contract.{table};
 ghost use Rattle.snapshot.specs.Snapshot.{read-refusal};
 ghost use Rattle.exports.specs.Replay.{replay-refusal, replay-place, replay-buffer};
 ghost use Rattle.exports.specs.Turns.{ahead-answer};
+ghost use Rattle.exports.specs.Class.{class-number, class-told, class-shown};
 
 mod replay;
 
@@ -74,4 +75,32 @@ pub extern "C" fn humdayeg_ahead(picture: &[u8], thread: u8) -> u8
         Ahead::NotWaiting => NOT_WAITING,
         Ahead::Refused(n) => REFUSED + n,
     }
+}
+
+// A class from a start table, scripts and turns (a byte each, the processor): each turn's answer and the picture after it, refused ones too, written
+// behind one another: 1, 19, 10, else 0. Refused, no byte of either buffer is written.
+#[no_mangle]
+pub extern "C" fn humdayeg_class(
+    p: u8,
+    t: u8,
+    m: u8,
+    b: u8,
+    scripts: &[u8],
+    turns: &[u8],
+    answers: &mut [u8],
+    pictures: &mut [u8],
+) -> u8
+    ensures number { λ r. ⌜ r ≡ class-number (table p t m b) (now (scripts .entry)) (now (turns .entry)) (now (answers .entry)) (now (pictures .entry)) ⌝ }
+    ensures answers { λ r. ⌜ now (answers .exit) ≡ class-told (table p t m b) (now (scripts .entry)) (now (turns .entry)) (now (answers .entry)) (now (pictures .entry)) ⌝ }
+    ensures pictures { λ r. ⌜ now (pictures .exit) ≡ class-shown (table p t m b) (now (scripts .entry)) (now (turns .entry)) (now (answers .entry)) (now (pictures .entry)) ⌝ }
+{
+    let begun = turns::start(p, t, m, b, scripts);
+    let bad = begun.refusal;
+    if bad != 0 {
+        return bad;
+    }
+    let session = begun.session;
+    let mut journal = [0u8; 12000];
+    let done = turns::class(session, &mut journal, scripts, turns, answers, pictures);
+    done.refusal
 }
