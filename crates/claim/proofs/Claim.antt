@@ -11,20 +11,19 @@ use lib.ListN.{length, drop}
 use borrow.Author.Tests.{eqb-true, eq-eqb, ne-eqb}
 use Rattle.state.specs.declared.State.{State as Record}
 use Rattle.state.specs.declared.Session.{Session}
-use Rattle.state.specs.Association.{session-record}
 use Rattle.reference.specs.Lists.{choose, if-zero}
-use Rattle.reference.specs.Start.{Config, config-cause, start}
+use Rattle.reference.specs.Start.{Config, config-cause}
 use Rattle.reference.specs.Step.{Move, run}
 use Rattle.reference.specs.Cause.{accepted}
 use Rattle.reference.specs.Script.{scripts-cause}
-use Rattle.reference.specs.Session.{Opening, table, scripted, opened, Request, move, turn, class, back, Lent, own, other, Call, Reply, bytes, answer-to, accept, answer, after, left, answers, state-of, picture-size}
+use Rattle.reference.specs.Session.{Opening, table, scripted, opened, Request, move, turn, class, back, Lent, own, other, Call, bytes, answer-to, accept, after, left, answers, picture-size}
 use Rattle.reference.proofs.Laws.{safe}
 use Rattle.snapshot.specs.Snapshot.{write-refusal, written}
 use Rattle.session.specs.Contract.{or-later, started, moved, journal-after, undone}
 use Rattle.session.proofs.Shown.{picture-long, fits, pictured}
 use Rattle.session.proofs.Holding.{Holds, Leaves, or-passed, config-is, standing-is, agree}
 use Rattle.turns.specs.Contract as turns
-use Rattle.claim.specs.Demand.{contract, calls, begins, Event, asks, writes, passes, asked, Hand, lent-to, left-as, reply, step, hand, told, BelongsLent, IsSession, opening, most, Demand3}
+use Rattle.claim.specs.Demand.{contract, calls, Event, asks, writes, passes, asked, Hand, lent-to, left-as, step, hand, told, BelongsLent, IsSession, opening, most, Demand3}
 use Rattle.claim.proofs.Numbers.{number, replies}
 use Rattle.claim.proofs.Leaves.{leaves}
 

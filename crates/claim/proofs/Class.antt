@@ -1,28 +1,26 @@
 -- A turn is its move, and a class is the moves that it makes, of the contracts.
 -- Assumes nothing.
-use Prim.Native.Nat.{ℕ, zero, suc, _+_, _*_, _≤_}
+use Prim.Native.Nat.{ℕ, _+_, _*_, _≤_}
 use mathlib.Core.Bool.{Bool, true, false, not}
 use mathlib.Core.List.{List, [], _∷_, _++_}
 use mathlib.Core.Path.{_≡_, refl, sym, ap, _∙_}
 use native.Mathlib.Nat.{le-refl}
 use native.Mathlib.Omega.{arith}
 use lib.Dec.{eqb}
-use lib.ListN.{length, take, drop, length-append, take-append-drop}
+use lib.ListN.{length, drop, length-append, take-append-drop}
 use borrow.Author.Tests.{eq-eqb, not-false}
 use Rattle.state.specs.declared.Session.{Session}
-use Rattle.state.specs.Association.{session-record}
 use Rattle.reference.specs.Refusal.{refuse}
 use Rattle.reference.specs.Lists.{choose}
-use Rattle.reference.specs.Start.{Config, config-cause, start}
+use Rattle.reference.specs.Start.{Config, config-cause}
 use Rattle.reference.specs.Step.{Move}
 use Rattle.reference.specs.Script.{scripts-ok, scripts-cause, turned, turn-cause, turn-after, class-moves}
-use Rattle.reference.specs.Session.{Opening, opened, Request, class, turn, own, Reply, bytes, short, cramped, state-of, answer-to, fills, left}
+use Rattle.reference.specs.Session.{Opening, opened, Request, class, turn, own, Reply, bytes, short, cramped, answer-to, fills, left}
 use Rattle.reference.proofs.Tests.{passed}
 use Rattle.reference.proofs.Laws.{safe}
 use Rattle.session.proofs.Holding.{Holds}
 use Rattle.turns.specs.Contract as contracts
-use Rattle.turns.specs.Contract.{turn-made}
-use Rattle.claim.specs.Demand.{contract, calls, Outcome, Event, asks, asked, Hand, hand, step, reply, IsSession, opening, in-hand}
+use Rattle.claim.specs.Demand.{contract, calls, Event, asks, asked, Hand, hand, step, reply, IsSession, opening, in-hand}
 use Rattle.claim.specs.Class.{TurnMoves, turns, done, ClassIs, Classes}
 use Rattle.claim.proofs.Numbers.{replies}
 use Rattle.claim.proofs.Leaves.{turn-passed, turn-session, turn-writes}

@@ -1,13 +1,11 @@
 -- What an accepted call leaves: a record and a journal of the moves that the reference session then holds.
 -- Assumes nothing.
-use Prim.Native.Nat.{ℕ, zero, suc, _+_, _-_, _*_, _≤_}
-use mathlib.Core.Bool.{true}
+use Prim.Native.Nat.{ℕ, _+_, _-_, _*_, _≤_}
 use mathlib.Core.List.{List, [], _∷_, _++_}
-use mathlib.Core.Path.{_≡_, refl, sym, ap, _∙_, subst}
+use mathlib.Core.Path.{_≡_, ap, _∙_, subst}
 use native.Mathlib.Omega.{arith}
-use lib.Dec.{eqb}
-use lib.ListN.{length, take, drop, length-append, length-drop}
-use lib.Seq.{take-at, drop-at, drop-drop}
+use lib.ListN.{length, take, drop}
+use lib.Seq.{take-at}
 use borrow.Author.Tests.{eq-eqb}
 use Rattle.state.specs.declared.Session.{Session}
 use Rattle.state.specs.Association.{session-record}
@@ -16,28 +14,15 @@ use Rattle.reference.specs.Start.{Config, start}
 use Rattle.reference.specs.Step.{Move}
 use Rattle.reference.specs.Script.{scripts-cause, progress, turn-move, class-moves}
 use Rattle.reference.specs.Session.{own, Request, move, turn, class, back, bytes, turn-with, accept, state-of}
+use Rattle.reference.proofs.Fronted.{fronted-length, fronted-rest}
 use Rattle.reference.proofs.Moves.{accepted-length}
 use Rattle.reference.proofs.Script.{accepted-class}
-use Rattle.session.specs.Contract.{config-of, lent-refusal, move-refusal, moved, journal-after, standing, undo-refusal, undone}
+use Rattle.session.specs.Contract.{config-of, lent-refusal, move-refusal, moved, journal-after, standing, undone}
 use Rattle.session.proofs.Answers.{lent-passed}
 use Rattle.session.proofs.Standing.{length-bytes}
 use Rattle.session.proofs.Holding.{Agree, Leaves, or-passed, move-leaves, undo-leaves}
-use Rattle.turns.specs.Contract.{turn-made, turn-refusal, turned, turn-journal, class-refusal, class-made, classed, class-journal}
+use Rattle.turns.specs.Contract.{turn-made, turn-refusal, turned, turn-journal, class-refusal, classed, class-journal}
 use Rattle.claim.specs.Demand.{calls}
-
--- ---- bytes over a journal's front
-
-module _ (b j : List ℕ) (fits : length b ≤ length j) where
-  fronted-length : length (fronted j b) ≡ length j
-  fronted-length = omega (arith, length-append b (drop (length b) j), length-drop (length b) j)
-
-  fronted-rest : (m : ℕ) → length b ≤ m → drop m (fronted j b) ≡ drop m j
-  fronted-rest m h =
-      let n : ℕ = length b in
-      let d : ℕ = m - n in
-      let z : m ≡ n + d = omega arith in
-      ap (λ (i : ℕ). drop i (fronted j b)) z ∙ sym (drop-drop d n (fronted j b)) ∙ ap (drop d) (drop-at b (drop n j) n refl) ∙ drop-drop d n j ∙
-      ap (λ (i : ℕ). drop i j) (sym z)
 
 -- ---- an accepted turn is its move
 
@@ -89,8 +74,8 @@ module _ (r : Session) (j : List ℕ) (t : Agree r j) where
           whole = ap (take (3 * length made)) wrote ∙ take-at (bytes made) (drop (length (bytes made)) j) (3 * length made) long;
         },
         record {
-          size = ap length wrote ∙ fronted-length (bytes made) j fits;
-          rest = λ m h. ap (drop (3 * m)) wrote ∙ fronted-rest (bytes made) j fits (3 * m) (omega arith);
+          size = ap length wrote ∙ fronted-length j (bytes made) fits;
+          rest = λ m h. ap (drop (3 * m)) wrote ∙ fronted-rest j (bytes made) (3 * m) (omega arith);
         },
       )
 

@@ -1,9 +1,9 @@
 -- A record and a journal that have come from the reference session: each call is answered as there, whatever is asked and lent.
 -- Assumes nothing.
-use Prim.Native.Nat.{ℕ, zero, suc}
+use Prim.Native.Nat.{ℕ}
 use mathlib.Core.Bool.{Bool, true, false, not}
 use mathlib.Core.List.{List, [], _∷_}
-use mathlib.Core.Path.{_≡_, refl, sym, ap, _∙_}
+use mathlib.Core.Path.{_≡_, refl, ap, _∙_}
 use lib.Dec.{eqb}
 use lib.ListN.{length}
 use Rattle.state.specs.declared.Session.{Session}
@@ -13,8 +13,8 @@ use Rattle.reference.specs.Start.{Config, config-cause, start}
 use Rattle.reference.specs.Step.{Move}
 use Rattle.reference.specs.Cause.{cause}
 use Rattle.reference.specs.Script.{scripts-ok, scripts-cause, progress, turn-move, class-answers, class-pictures}
-use Rattle.reference.specs.Session.{Lent, own, other, Request, move, turn, class, back, moves, short, replays, state-of, lent-length, cramped, strange, standing-in, turn-with, answer-to, reply-to}
-use Rattle.session.specs.Contract.{shown, config-of, lent-refusal, or-later, move-refusal, moved, standing, replayed, undo-refusal, undone}
+use Rattle.reference.specs.Session.{Lent, own, other, Request, move, turn, class, back, moves, short, state-of, lent-length, cramped, strange, standing-in, turn-with, answer-to, reply-to}
+use Rattle.session.specs.Contract.{lent-refusal, or-later, move-refusal, moved, standing, replayed, undone}
 use Rattle.session.proofs.Standing.{moves-front}
 use Rattle.session.proofs.Holding.{Holds, shown-is, config-is, applied-held}
 use Rattle.session.proofs.Numbers.{or-refuse, lent-number, replayed-is, own-replays, move-number, undo-number}

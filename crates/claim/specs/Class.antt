@@ -12,7 +12,7 @@ use Rattle.reference.specs.Safe.{Safe}
 use Rattle.reference.specs.Script.{class-moves, class-answers, class-pictures}
 use Rattle.reference.specs.Session.{Opening, own, move, turn, class}
 use Rattle.turns.specs.Contract.{turn-made}
-use Rattle.claim.specs.Demand.{Implementation, Outcome, Event, asks, Hand, hand, IsSession, opening, in-hand, config, listed}
+use Rattle.claim.specs.Demand.{Implementation, Outcome, Event, asks, hand, IsSession, opening, in-hand, config, listed}
 
 -- an accepted turn leaves what its move by itself leaves: any record, any journal
 abbrev pub TurnMoves : Implementation → Type 0

@@ -2,7 +2,7 @@
 -- that the entry points' contracts describe, of which proofs/Claim.antt proves it.
 -- Assumes nothing.
 use Prim.Native.Nat.{ℕ, _*_, _≤_, max}
-use mathlib.Core.List.{List, [], _∷_, _++_}
+use mathlib.Core.List.{List, [], _∷_}
 use mathlib.Core.Path.{_≡_}
 use lib.ListN.{length, take, drop}
 use Rattle.state.specs.declared.State.{State}

@@ -7,7 +7,6 @@ use native.Mathlib.Omega.{arith}
 use native.Mathlib.Numerals.{add-one}
 use lib.ListN.{length, getD, drop, length-drop}
 use lib.Seq.{drop-cons}
-use Rattle.exports.specs.declared.replay.Replayed.{Replayed}
 use Rattle.exports.specs.Replay.{Replay, found, replay, whole}
 use Rattle.exports.specs.Model.{Replays}
 use Rattle.state.specs.declared.State.{State as Record}

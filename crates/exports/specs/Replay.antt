@@ -8,7 +8,7 @@ use Rattle.reference.specs.Refusal.{bad-operand, too-short, refuse}
 use Rattle.reference.specs.Lists.{if-zero}
 use Rattle.reference.specs.State.{State}
 use Rattle.reference.specs.Start.{Config, config-cause, start}
-use Rattle.reference.specs.Step.{Move, move-of, next}
+use Rattle.reference.specs.Step.{move-of, next}
 use Rattle.reference.specs.Cause.{cause}
 use Rattle.reference.specs.Snapshot.{picture}
 use Rattle.session.specs.Contract.{or-later}

@@ -1,7 +1,7 @@
 -- The calls that the code's run counts are each thread's progress.
 -- Assumes nothing.
-use Prim.Native.Nat.{ℕ, zero, suc, _+_, _*_, _≤_, _<_, _/_}
-use mathlib.Core.Bool.{Bool, true, false, _&&_, not}
+use Prim.Native.Nat.{ℕ, _+_, _*_, _≤_, _<_, _/_}
+use mathlib.Core.Bool.{Bool, true, false}
 use mathlib.Core.List.{List, [], _∷_, _++_}
 use mathlib.Core.Logic.{_≢_}
 use mathlib.Core.Path.{_≡_, refl, sym, ap, _∙_, subst}
@@ -19,7 +19,6 @@ use Rattle.association.proofs.Tables.{tabulate-set, tabulate-read}
 use Rattle.association.proofs.Shown.{read-processor}
 use Rattle.shown.proofs.Regular.{Regular, regular-fits, allowed-regular}
 use Rattle.shown.proofs.Reached.{reached-allowed}
-use Rattle.step.specs.declared.Run.{Run}
 use Rattle.step.specs.Model.{up-to, moved-at, run-of, noted, noted-at, counted-of}
 use Rattle.step.proofs.InPlace.{Ends, run-ends}
 use Rattle.agreement.proofs.View.{by-action}

@@ -3,10 +3,9 @@
 use Prim.Native.Nat.{ℕ, zero, suc, _*_}
 use mathlib.Core.Bool.{Bool, true, false, not}
 use mathlib.Core.List.{List}
-use mathlib.Core.Path.{_≡_, refl, sym, ap, _∙_}
+use mathlib.Core.Path.{_≡_, refl, sym, _∙_}
 use native.Mathlib.Omega.{arith}
 use lib.ListN.{length, replicate, take}
-use Rattle.session.specs.declared.Tested.{Tested}
 use Rattle.session.specs.declared.replay.Replayed.{Replayed}
 use Rattle.state.specs.declared.Session.{Session}
 use Rattle.state.specs.Association.{decode}
@@ -14,12 +13,8 @@ use Rattle.state.specs.Model.{start-record}
 use Rattle.state.proofs.Sized.{Sized}
 use Rattle.step.specs.Model.{counted-of}
 use Rattle.reference.specs.Refusal.{refuse}
-use Rattle.reference.specs.Lists.{if-zero}
-use Rattle.reference.specs.Start.{start}
-use Rattle.reference.specs.Step.{Move}
-use Rattle.reference.specs.Cause.{accepted}
 use Rattle.reference.specs.Session.{replays}
-use Rattle.session.specs.Contract.{shown, config-of, lent-refusal, or-later, standing, replayed, tested}
+use Rattle.session.specs.Contract.{config-of, lent-refusal, standing, replayed, tested}
 use Rattle.session.specs.Replay.{Replays}
 use Rattle.session.proofs.Answers.{lent-passed}
 use Rattle.session.proofs.Counted.{calls-of, counted-is}

@@ -1,14 +1,13 @@
 -- What a step back finds, case by case: the shape in which its code arrives at it.
 -- Assumes nothing.
-use Prim.Native.Nat.{ℕ, zero, suc, _+_, _-_, _*_, _≤_, _<_}
+use Prim.Native.Nat.{ℕ, zero, suc, _+_, _-_, _*_, _≤_}
 use mathlib.Core.Bool.{Bool, true, false, _&&_, not, true≢false}
 use mathlib.Core.List.{List, [], _∷_, _++_}
-use mathlib.Core.Path.{_≡_, refl, sym, ap, _∙_, subst}
+use mathlib.Core.Path.{_≡_, refl, sym, ap, _∙_}
 use native.Mathlib.Omega.{arith}
 use lib.Dec.{eqb}
 use lib.ListN.{length, getD}
-use borrow.Author.Tests.{eq-eqb, ne-eqb, not-false}
-use Rattle.session.specs.declared.Answer.{Answer}
+use borrow.Author.Tests.{eq-eqb, ne-eqb}
 use Rattle.session.specs.declared.replay.Replayed.{Replayed}
 use Rattle.state.specs.declared.Session.{Session}
 use Rattle.state.specs.declared.State.{State as Record}
@@ -19,7 +18,6 @@ use Rattle.state.proofs.Sized.{Sized}
 use Rattle.step.specs.declared.Moved.{Moved}
 use Rattle.step.specs.Model.{moved-of}
 use Rattle.reference.specs.Refusal.{refuse}
-use Rattle.reference.specs.Lists.{choose, in-range}
 use Rattle.reference.specs.State.{State, same-state}
 use Rattle.reference.specs.Start.{Config, config-cause, start}
 use Rattle.reference.specs.Step.{Move, next, run}
@@ -27,7 +25,7 @@ use Rattle.reference.specs.Cause.{cause, accepted}
 use Rattle.reference.specs.Session.{moves, all-but-last, replays}
 use Rattle.reference.proofs.Tests.{true-range}
 use Rattle.reference.proofs.Same.{same-state-exact}
-use Rattle.reference.proofs.Moves.{run-snoc, accepted-snoc, accepted-all-but-last}
+use Rattle.reference.proofs.Moves.{run-snoc, accepted-snoc}
 use Rattle.shown.proofs.Kept.{state-kept, fields-say}
 use Rattle.shown.proofs.Decode.{decode-encode, encode-ok}
 use Rattle.shown.proofs.Reached.{reached-allowed}

@@ -13,7 +13,7 @@ use Rattle.reference.specs.Break.{step-breaks}
 use Rattle.reference.specs.Snapshot.{thread-entry, behind}
 use Rattle.reference.specs.Session.{bytes}
 use Rattle.session.specs.Contract.{started, lent-refusal, move-refusal, moved, written-at, journal-after}
-use Rattle.session.specs.Worked.{journal, answers, record-after, Taken, at-l8, idle, Table}
+use Rattle.session.specs.Worked.{journal, answers, record-after, at-l8, idle, Table}
 
 pub table : Table
 unfolding started config-cause start tabulate encode decode chain run next act line line-of cause action-of moved move-refusal lent-refusal step-breaks journal-after written-at bytes session-ok state-ok broken-rule fields-ok processor-ok mutex-ok thread-ok chains-ok chain-ok holders-ok zero-past each every no-twice find sum is thread-entry behind answers record-after journal at-l8 idle

@@ -1,7 +1,7 @@
 -- "Picture": the rules that a picture keeps, over the record that its fields are, in the order of their numbers 12, 13 and 14; and the rule of a session's record, 15.
 -- Assumes nothing.
-use Prim.Native.Nat.{ℕ, zero, suc, _+_}
-use mathlib.Core.Bool.{Bool, true, false, _&&_, _||_, not}
+use Prim.Native.Nat.{ℕ, _+_}
+use mathlib.Core.Bool.{Bool, true, _&&_, _||_, not}
 use mathlib.Core.List.{List, [], _∷_}
 use lib.Dec.{eqb, leb, ltb}
 use Rattle.state.specs.declared.Thread.{Thread}
@@ -13,7 +13,7 @@ use Rattle.state.specs.declared.Session.{Session}
 use Rattle.state.specs.Record.{thread-of, processor-of, mutex-of, first-of, chain}
 use Rattle.reference.specs.Refusal.{bad-field, bad-chain, bad-holder, refuse}
 use Rattle.reference.specs.Lists.{choose, in-range, each}
-use Rattle.reference.specs.State.{Row, row, line-of}
+use Rattle.reference.specs.State.{row, line-of}
 use Rattle.reference.specs.Snapshot.{stands-in}
 
 -- the test holds of each member

@@ -5,7 +5,6 @@ ghost use Rattle.state.specs.Model.{thread-from};
 ghost use Rattle.step.specs.Model.{target-of, seen-of, carried-firsts, carried-threads, gathered-of, ran, run-of, counted-of, moved-of};
 use crate::Moved;
 use crate::Run;
-use crate::Sizes;
 use crate::Status;
 use crate::Transfer;
 use crate::View;

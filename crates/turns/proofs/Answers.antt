@@ -9,11 +9,10 @@ use native.Mathlib.Nat.{div-lt-iff-lt-mul}
 use native.Mathlib.Omega.{arith}
 use lib.Dec.{eqb, ltb}
 use lib.ListN.{length}
-use borrow.Author.Tests.{eq-eqb, ne-eqb, lt-ltb, le-ltb, ltb-true, ltb-false}
+use borrow.Author.Tests.{ne-eqb, lt-ltb, le-ltb, ltb-true, ltb-false}
 use Rattle.state.specs.declared.State.{State as Record}
 use Rattle.state.specs.declared.Session.{Session}
 use Rattle.state.specs.Record.{zero-session}
-use Rattle.state.specs.Association.{encode}
 use Rattle.session.specs.declared.Answer.{Answer}
 use Rattle.reference.specs.Refusal.{refuse}
 use Rattle.reference.specs.Lists.{choose, tabulate}

@@ -1,5 +1,4 @@
 -- What the entry points' code finds.
-pub mod Fronted
 pub mod Turned
 pub mod Answers
 pub mod Loop

@@ -1,6 +1,6 @@
 -- A class's loop: what holds after i turns, one turn more, and the end.
 -- Assumes nothing.
-use Prim.Native.Nat.{ℕ, zero, suc, _+_, _-_, _*_, _≤_, _<_}
+use Prim.Native.Nat.{ℕ, suc, _+_, _-_, _*_, _≤_, _<_}
 use mathlib.Core.Bool.{Bool, true, false, _||_, not, true≢false}
 use mathlib.Core.List.{List, [], _∷_, _++_}
 use mathlib.Core.Path.{_≡_, refl, sym, ap, _∙_}
@@ -8,7 +8,7 @@ use native.Mathlib.Nat.{suc-mul, mul-le-mul-right}
 use native.Mathlib.Numerals.{add-one}
 use native.Mathlib.Omega.{arith}
 use lib.Dec.{eqb, ltb}
-use lib.ListN.{length, getD, set, take, drop, length-append, length-take, length-drop}
+use lib.ListN.{length, getD, set, take, drop, length-append, length-drop}
 use lib.Seq.{take-suc, take-all, length-take-le}
 use borrow.Author.Tests.{eqb-true, ltb-false, not-false}
 use Rattle.state.specs.declared.State.{State as Record}
@@ -21,9 +21,8 @@ use Rattle.shown.proofs.Unique.{encode-sized}
 use Rattle.snapshot.specs.Model.{over, record-bytes}
 use Rattle.snapshot.proofs.Written.{over-written}
 use Rattle.reference.specs.Lists.{choose, fronted, tabulate}
-use Rattle.reference.specs.State.{State}
 use Rattle.reference.specs.Start.{Config, config-cause, start}
-use Rattle.reference.specs.Step.{Move, move-of, run}
+use Rattle.reference.specs.Step.{Move, move-of}
 use Rattle.reference.specs.Cause.{cause, accepted}
 use Rattle.reference.specs.Snapshot.{picture}
 use Rattle.reference.specs.Script.{turned, turn-cause, turn-after, class-moves, class-answers, class-pictures}
@@ -45,7 +44,7 @@ use Rattle.session.proofs.Holding.{Agree, or-passed, whole-is}
 use Rattle.turns.specs.declared.taken.Taken.{Taken}
 use Rattle.turns.specs.Contract.{class-refusal}
 use Rattle.turns.specs.Model.{taken-of, Given}
-use Rattle.turns.proofs.Fronted.{fronted-same, fronted-length, fronted-more, fronted-set, fronted-part}
+use Rattle.reference.proofs.Fronted.{fronted-same, fronted-length, fronted-more, fronted-set, fronted-part}
 use Rattle.turns.proofs.Turned.{Turn, turn-taken}
 
 -- the pictures of a class are as long as the start table says

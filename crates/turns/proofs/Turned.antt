@@ -1,6 +1,6 @@
 -- One turn: what the code makes of a record's registers and counts is the reference machine's turn.
 -- Assumes nothing.
-use Prim.Native.Nat.{ℕ, zero, suc, _≤_, _<_}
+use Prim.Native.Nat.{ℕ, _<_}
 use mathlib.Core.Bool.{Bool, true, false}
 use mathlib.Core.List.{List, [], _∷_, _++_}
 use mathlib.Core.Path.{_≡_, refl, sym, ap, _∙_}
@@ -10,7 +10,7 @@ use lib.ListN.{getD}
 use borrow.Author.Tests.{eqb-true}
 use Rattle.state.specs.declared.Processor.{Processor}
 use Rattle.state.specs.declared.State.{State as Record}
-use Rattle.state.specs.Record.{zero-processor, processor-of}
+use Rattle.state.specs.Record.{processor-of}
 use Rattle.state.specs.Association.{encode, decode, processor-record}
 use Rattle.state.specs.Rules.{state-ok}
 use Rattle.state.proofs.Sized.{Sized}

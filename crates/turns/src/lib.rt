@@ -6,7 +6,7 @@ ghost use mathlib.Core.Path.{_≡_};
 ghost use lib.ListN.{length};
 ghost use Rattle.script.specs.Association.{move-in};
 ghost use Rattle.session.specs.Contract.{table, lent-refusal};
-ghost use Rattle.turns.specs.Contract.{scripted, turn-made, turned, turn-journal, class-refusal, classed, class-journal, answers-after, pictures-after};
+ghost use Rattle.turns.specs.Contract.{scripted, turn-made, turned, turn-journal, classed, class-journal, answers-after, pictures-after};
 use crate::sequence::take_turns;
 use crate::sequence::unfit;
 use crate::taken::turn_move;

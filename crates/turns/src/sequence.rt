@@ -3,7 +3,7 @@ ghost use mathlib.Core.Path.{_≡_};
 ghost use mathlib.Core.Bool.{_||_};
 ghost use Prim.Native.Nat.{_+_, _*_};
 ghost use lib.Dec.{eqb, ltb};
-ghost use lib.ListN.{length, set};
+ghost use lib.ListN.{set};
 ghost use Rattle.reference.specs.Lists.{choose};
 ghost use Rattle.reference.specs.Refusal.{too-short, refuse};
 ghost use Rattle.reference.specs.Session.{picture-size};

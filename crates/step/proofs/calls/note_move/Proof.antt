@@ -1,6 +1,5 @@
 -- `step::calls::note_move` meets its contract.
 -- Assumes nothing.
-use mathlib.Core.Path.{sym}
 use borrow.Author.Needs.{needs}
 use borrow.Author.Tests.{ne-eqb, eq-eqb}
 use Rattle.step.proofs.calls.note_move.Statement.{statement}

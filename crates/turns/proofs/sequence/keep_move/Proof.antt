@@ -1,6 +1,5 @@
 -- `turns::sequence::keep_move` meets its contract.
 -- Assumes nothing.
-use mathlib.Core.Path.{sym}
 use borrow.Author.Needs.{needs}
 use borrow.Author.Tests.{eq-eqb, ne-eqb}
 use Rattle.turns.proofs.sequence.keep_move.Statement.{statement}

@@ -15,6 +15,14 @@ fronted-same b x e = sym (take-append-drop (length x) b) ∙ ap (λ (l : List �
 module _ (b x : List ℕ) where
   pub fronted-length : length x ≤ length b → length (fronted b x) ≡ length b
   fronted-length h = omega (arith, length-append x (drop (length x) b), length-drop (length x) b)
+
+  pub fronted-rest : (m : ℕ) → length x ≤ m → drop m (fronted b x) ≡ drop m b
+  fronted-rest m h =
+      let n : ℕ = length x in
+      let d : ℕ = m - n in
+      let z : m ≡ n + d = omega arith in
+      ap (λ (i : ℕ). drop i (fronted b x)) z ∙ sym (drop-drop d n (fronted b x)) ∙ ap (drop d) (drop-at x (drop n b) n refl) ∙ drop-drop d n b ∙
+      ap (λ (i : ℕ). drop i b) (sym z)
 
   -- what is written at the end of the front joins it
   pub fronted-more : (y : List ℕ) (n : ℕ) → length x ≡ n → take n (fronted b x) ++ y ++ drop (n + length y) (fronted b x) ≡ fronted b (x ++ y)
