@@ -82,11 +82,11 @@ uint8_t humdayeg_replay(uint8_t p, uint8_t t, uint8_t m, uint8_t b,
  * the picture after each turn.
  *
  * p, t, m, b: the start table, as for humdayeg_replay.
- * scripts: scripts_len bytes, HUMDAYEG_SCRIPT_BYTES for each thread, thread 1 first: its number
- *     of calls, 0 to 6, then six pairs of action (1 to 6) and operand. Pairs past that number
- *     and bytes after the last thread's script are not looked at.
+ * scripts: scripts_len bytes, HUMDAYEG_SCRIPT_BYTES for each thread from 1 on. Byte 0 of a
+ *     script says how many calls it has, 0 to 6; bytes 2i + 1 and 2i + 2 are the action (1 to 6)
+ *     and the operand of its call i, counted from 0. No other byte is looked at.
  * turns: turns_len bytes, each the processor that has a turn. At App it makes the next call of
- *     its loaded thread, or exit when the script is spent; elsewhere it goes. A thread's next
+ *     its loaded thread, or exit once it has made all; elsewhere it goes. A thread's next
  *     call is the one after those that it has made.
  * answers: answers_len bytes, turns_len or more: answers[i] becomes the number of turns[i]:
  *     0        accepted
@@ -96,7 +96,7 @@ uint8_t humdayeg_replay(uint8_t p, uint8_t t, uint8_t m, uint8_t b,
  *     6, 7     unlock by a thread that is not the owner, create of one that is not unborn
  *     the first that is there. A refused turn changes nothing, so the call is next again.
  * pictures: pictures_len bytes, turns_len pictures of HUMDAYEG_PICTURE_BYTES(p, t, m) or more,
- *     one behind the other: the picture after each turn, refused ones too.
+ *     one behind the other: the picture after each turn, accepted or not.
  *
  * Answers, the first that is there:
  *     1        the table is outside its ranges

@@ -15,7 +15,7 @@ use Rattle.reference.specs.Lists.{choose}
 use Rattle.reference.specs.Start.{Config, config-cause}
 use Rattle.reference.specs.Step.{Move}
 use Rattle.reference.specs.Script.{scripts-ok, scripts-cause, turned, turn-cause, turn-after, class-moves}
-use Rattle.reference.specs.Session.{Opening, opened, Request, class, turn, own, Reply, bytes, short, cramped, answer-to, fills, left}
+use Rattle.reference.specs.Session.{Opening, opened, Request, class, turn, own, Reply, bytes, short, lacks-room, answer-to, fills, left}
 use Rattle.reference.proofs.Tests.{passed}
 use Rattle.reference.proofs.Laws.{safe}
 use Rattle.session.proofs.Holding.{Holds}
@@ -106,8 +106,8 @@ module _ (o : Opening) (j : List ℕ) (e : contract .begin o j .refusal ≡ 0) (
   scripted : scripts-ok (c .T) x ≡ true
   scripted =
       let none : scripts-cause (c .T) x ≡ 0 =
-      passed (cramped c (length ps) answers pictures) 9 (scripts-cause (c .T) x)
-      (passed (short (length (h .journal))) 9 (refuse (cramped c (length ps) answers pictures) 10 (scripts-cause (c .T) x)) free .1) .1 in
+      passed (lacks-room c (length ps) answers pictures) 9 (scripts-cause (c .T) x)
+      (passed (short (length (h .journal))) 9 (refuse (lacks-room c (length ps) answers pictures) 10 (scripts-cause (c .T) x)) free .1) .1 in
       not-false (scripts-ok (c .T) x) (passed (not (scripts-ok (c .T) x)) 18 0 none .0)
 
   -- both ways start here

@@ -9,12 +9,12 @@ use lib.Seq.{take-at}
 use borrow.Author.Tests.{eq-eqb}
 use Rattle.state.specs.declared.Session.{Session}
 use Rattle.state.specs.Association.{session-record}
-use Rattle.reference.specs.Lists.{fronted}
+use Rattle.reference.specs.Lists.{with-front}
 use Rattle.reference.specs.Start.{Config, start}
 use Rattle.reference.specs.Step.{Move}
 use Rattle.reference.specs.Script.{scripts-cause, progress, turn-move, class-moves}
 use Rattle.reference.specs.Session.{own, Request, move, turn, class, back, bytes, turn-with, accept, state-of}
-use Rattle.reference.proofs.Fronted.{fronted-length, fronted-rest}
+use Rattle.reference.proofs.Fronts.{with-front-length, with-front-rest}
 use Rattle.reference.proofs.Moves.{accepted-length}
 use Rattle.reference.proofs.Script.{accepted-class}
 use Rattle.session.specs.Contract.{config-of, lent-refusal, move-refusal, moved, journal-after, standing, undone}
@@ -66,7 +66,7 @@ module _ (r : Session) (j : List ℕ) (t : Agree r j) where
       let long = length-bytes made in
       let fits : length (bytes made) ≤ length j = omega arith in
       let zero-is = eq-eqb (class-refusal r j x ps a b) 0 e in
-      let wrote : class-journal r j x ps a b ≡ fronted j (bytes made) = rw zero-is in
+      let wrote : class-journal r j x ps a b ≡ with-front j (bytes made) = rw zero-is in
       let gave : classed r j x ps a b .session ≡ session-record (state-of c made) (c .B) = rw zero-is in (
         record {
           shows = gave;
@@ -74,8 +74,8 @@ module _ (r : Session) (j : List ℕ) (t : Agree r j) where
           whole = ap (take (3 * length made)) wrote ∙ take-at (bytes made) (drop (length (bytes made)) j) (3 * length made) long;
         },
         record {
-          size = ap length wrote ∙ fronted-length j (bytes made) fits;
-          rest = λ m h. ap (drop (3 * m)) wrote ∙ fronted-rest j (bytes made) (3 * m) (omega arith);
+          size = ap length wrote ∙ with-front-length j (bytes made) fits;
+          rest = λ m h. ap (drop (3 * m)) wrote ∙ with-front-rest j (bytes made) (3 * m) (omega arith);
         },
       )
 

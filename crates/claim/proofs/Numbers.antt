@@ -8,12 +8,12 @@ use lib.Dec.{eqb}
 use lib.ListN.{length}
 use Rattle.state.specs.declared.Session.{Session}
 use Rattle.reference.specs.Refusal.{refuse}
-use Rattle.reference.specs.Lists.{choose, fronted}
+use Rattle.reference.specs.Lists.{choose, with-front}
 use Rattle.reference.specs.Start.{Config, config-cause, start}
 use Rattle.reference.specs.Step.{Move}
 use Rattle.reference.specs.Cause.{cause}
 use Rattle.reference.specs.Script.{scripts-ok, scripts-cause, progress, turn-move, class-answers, class-pictures}
-use Rattle.reference.specs.Session.{Lent, own, other, Request, move, turn, class, back, moves, short, state-of, lent-length, cramped, strange, standing-in, turn-with, answer-to, reply-to}
+use Rattle.reference.specs.Session.{Lent, own, other, Request, move, turn, class, back, moves, short, state-of, lent-length, lacks-room, strange, standing-in, turn-with, answer-to, reply-to}
 use Rattle.session.specs.Contract.{lent-refusal, or-later, move-refusal, moved, standing, replayed, undone}
 use Rattle.session.proofs.Standing.{moves-front}
 use Rattle.session.proofs.Holding.{Holds, shown-is, config-is, applied-held}
@@ -79,7 +79,7 @@ module _ (c : Config) (right : config-cause c ≡ 0) (ms : List Move) (r : Sessi
   class-number : (x ps a b : List ℕ) → class-refusal r lent x ps a b ≡ answer-to c size ms (class x ps a b) t
   unfolding class-refusal
   class-number x ps a b =
-      behind _ _ (λ i. refuse (cramped (config-is c right ms r j h i) (length ps) a b) 10 (refuse (strange-is t i) 16 (scripts-is x i)))
+      behind _ _ (λ i. refuse (lacks-room (config-is c right ms r j h i) (length ps) a b) 10 (refuse (strange-is t i) 16 (scripts-is x i)))
 
   -- the number, whatever is asked and lent
   pub number : (q : Request) → calls r lent q .refusal ≡ answer-to c size ms q t
@@ -103,12 +103,12 @@ module _ (c : Config) (right : config-cause c ≡ 0) (ms : List Move) (r : Sessi
       record {
         refusal = n i;
         buffers =
-            choose (eqb (n i) 0) (fronted a (class-answers (config-is c right ms r j h i) x (standing-is i) ps)) a ∷
-            choose (eqb (n i) 0) (fronted b (class-pictures (config-is c right ms r j h i) x (standing-is i) ps)) b ∷ [];
+            choose (eqb (n i) 0) (with-front a (class-answers (config-is c right ms r j h i) x (standing-is i) ps)) a ∷
+            choose (eqb (n i) 0) (with-front b (class-pictures (config-is c right ms r j h i) x (standing-is i) ps)) b ∷ [];
       }) ∙
       (λ i.
       record {
         refusal = answer-to c size ms q t;
         buffers =
-            two-choices (eqb (answer-to c size ms q t) 0) (fronted a (class-answers c x (standing-in ms t) ps)) (fronted b (class-pictures c x (standing-in ms t) ps)) a b i;
+            two-choices (eqb (answer-to c size ms q t) 0) (with-front a (class-answers c x (standing-in ms t) ps)) (with-front b (class-pictures c x (standing-in ms t) ps)) a b i;
       })

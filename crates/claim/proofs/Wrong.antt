@@ -13,7 +13,7 @@ use Rattle.state.specs.Record.{zero-session, zero-processor, chain}
 use Rattle.state.specs.Association.{encode, decode, session-record}
 use Rattle.state.specs.Rules.{session-ok, state-ok, zero-past, broken-rule, fields-ok, chains-ok, holders-ok, chain-ok, processor-ok, mutex-ok, thread-ok, every, no-twice}
 use Rattle.reference.specs.Refusal.{refuse}
-use Rattle.reference.specs.Lists.{choose, in-range, fronted, tabulate, find, sum, is, same-list, each}
+use Rattle.reference.specs.Lists.{choose, in-range, with-front, tabulate, find, sum, is, same-list, each}
 use Rattle.reference.specs.State.{line-of, same-state, processor-at}
 use Rattle.reference.specs.Start.{Config, config-cause, start}
 use Rattle.reference.specs.Step.{Move, move-of, next, run, act, action-of, line}
@@ -22,7 +22,7 @@ use Rattle.reference.specs.Break.{step-breaks}
 use Rattle.reference.specs.Safe.{one-if}
 use Rattle.reference.specs.Snapshot.{thread-entry, behind, picture, concat}
 use Rattle.reference.specs.Script.{script-length, script-action, script-ok, scripts-ok, scripts-cause, progress, turn-move, turn-cause, turn-after, class-moves, class-answers, class-pictures}
-use Rattle.reference.specs.Session.{Opening, table, scripted, Request, move, turn, class, back, own, other, Call, Reply, bytes, moves, all-but-last, replays, cramped, left, answers}
+use Rattle.reference.specs.Session.{Opening, table, scripted, Request, move, turn, class, back, own, other, Call, Reply, bytes, moves, all-but-last, replays, lacks-room, left, answers}
 use Rattle.snapshot.specs.Snapshot.{written}
 use Rattle.session.specs.Contract.{shown, config-of, answered, or-later, started, lent-refusal, move-refusal, moved, written-at, journal-after, standing, replayed, progress-in, undo-refusal, undone}
 use Rattle.turns.specs.Contract.{turn-made, turn-refusal, turned, turn-journal, class-refusal, class-made, classed, class-journal, answers-after, pictures-after}
@@ -85,7 +85,7 @@ class-by f r j x ps a b =
       refusal = o .refusal;
       session = o .session;
       journal = o .journal;
-      buffers = answers-after r j x ps a b ∷ choose (eqb (o .refusal) 0) (fronted b (f (config-of r) x (standing r j) ps)) b ∷ [];
+      buffers = answers-after r j x ps a b ∷ choose (eqb (o .refusal) 0) (with-front b (f (config-of r) x (standing r j) ps)) b ∷ [];
     }
 
 -- the contracts' class is such a one
@@ -383,11 +383,11 @@ omitter d =
 
 trusts : Session → List ℕ → List ℕ → List ℕ → List ℕ → List ℕ → Outcome
 trusts r j x ps a b =
-    let n : ℕ = or-later (lent-refusal r (length j)) (refuse (cramped (config-of r) (length ps) a b) 10 (scripts-refusal r x)) in
+    let n : ℕ = or-later (lent-refusal r (length j)) (refuse (lacks-room (config-of r) (length ps) a b) 10 (scripts-refusal r x)) in
     let made : List Move = class-made r j x ps a b in
-    outcome (answered n (session-record (run (start (config-of r)) made) (r .initial)) r) (choose (eqb n 0) (fronted j (bytes made)) j)
-    (choose (eqb n 0) (fronted a (class-answers (config-of r) x (standing r j) ps)) a ∷
-    choose (eqb n 0) (fronted b (class-pictures (config-of r) x (standing r j) ps)) b ∷ [])
+    outcome (answered n (session-record (run (start (config-of r)) made) (r .initial)) r) (choose (eqb n 0) (with-front j (bytes made)) j)
+    (choose (eqb n 0) (with-front a (class-answers (config-of r) x (standing r j) ps)) a ∷
+    choose (eqb n 0) (with-front b (class-pictures (config-of r) x (standing r j) ps)) b ∷ [])
 
 truster : Demand3 (classing trusts) → ⊥
 unfolding trusts computing

@@ -5,7 +5,7 @@ use mathlib.Core.List.{List, [], _∷_}
 use mathlib.Core.Path.{_≡_}
 use Rattle.state.specs.declared.Session.{Session}
 use Rattle.state.specs.Association.{session-record}
-use Rattle.reference.specs.Lists.{fronted}
+use Rattle.reference.specs.Lists.{with-front}
 use Rattle.reference.specs.Start.{start}
 use Rattle.reference.specs.Step.{Move, run}
 use Rattle.reference.specs.Safe.{Safe}
@@ -42,7 +42,7 @@ module _ (impl : Implementation) (o : Opening) (j : List ℕ) (es : List Event) 
     pub state : done .session ≡ session-record (run (start (config impl o j es)) standing) (config impl o j es .B)
     -- each turn is answered by its move's number, and every picture on the way is that of its state,
     pub buffers : done .buffers ≡
-        fronted answers (class-answers (config impl o j es) x before ps) ∷ fronted pictures (class-pictures (config impl o j es) x before ps) ∷ []
+        with-front answers (class-answers (config impl o j es) x before ps) ∷ with-front pictures (class-pictures (config impl o j es) x before ps) ∷ []
     -- record and journal are those that turn after turn leaves,
     pub turn-by-turn : record { session = done .session; journal = done .journal } ≡ hand impl (in-hand impl o j es) (turns x ps)
     -- and the laws hold

@@ -8,7 +8,7 @@ use lib.ListN.{length, take, drop}
 use Rattle.state.specs.declared.State.{State}
 use Rattle.state.specs.declared.Session.{Session}
 use Rattle.state.specs.Association.{session-record}
-use Rattle.reference.specs.Lists.{fronted}
+use Rattle.reference.specs.Lists.{with-front}
 use Rattle.reference.specs.Start.{Config}
 use Rattle.reference.specs.Step.{Move}
 use Rattle.reference.specs.Safe.{Safe}
@@ -168,7 +168,7 @@ module _ (impl : Implementation) where
       pub state : in-hand .session ≡ session-record (state-of config listed) (config .B)
       -- and so it is pictured, in any buffer that is long enough
       pub pictured : (b : List ℕ) → length (picture (state-of config listed)) ≤ length b →
-          impl .write (in-hand .session .state) b ≡ record { refusal = 0; buffer = fronted b (picture (state-of config listed)) }
+          impl .write (in-hand .session .state) b ≡ record { refusal = 0; buffer = with-front b (picture (state-of config listed)) }
       -- the journal's first 3n bytes are the list in order
       pub standing : take (3 * length listed) (in-hand .journal) ≡ bytes listed
       -- the journal's length, and its bytes where no move ever stood, are those that it came with

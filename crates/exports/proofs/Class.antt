@@ -11,12 +11,12 @@ use Rattle.exports.specs.Class.{class-number, class-told, class-shown}
 use Rattle.session.specs.declared.Answer.{Answer}
 use Rattle.state.specs.declared.Session.{Session}
 use Rattle.reference.specs.Refusal.{refuse}
-use Rattle.reference.specs.Lists.{choose, fronted}
+use Rattle.reference.specs.Lists.{choose, with-front}
 use Rattle.reference.specs.Start.{Config, config-cause}
 use Rattle.reference.specs.Step.{run}
 use Rattle.reference.specs.Cause.{accepted}
 use Rattle.reference.specs.Script.{scripts-cause, class-answers, class-pictures}
-use Rattle.reference.specs.Session.{bytes, short, cramped}
+use Rattle.reference.specs.Session.{bytes, short, lacks-room}
 use Rattle.session.specs.Contract.{config-of, or-later, standing}
 use Rattle.session.proofs.Holding.{Holds, or-passed, config-is, standing-is}
 use Rattle.session.proofs.Numbers.{lent-number, own-replays}
@@ -75,7 +75,7 @@ module _ (c : Config) (x : List ℕ) (a : Answer) (e : a ≡ scripted c x) where
           lent-number c right [] r j holds (length j) _ ∙
           (λ i.
           refuse (long i) 10
-          (refuse (cramped (table-is i) (length ps) answers pictures) 10
+          (refuse (lacks-room (table-is i) (length ps) answers pictures) 10
           (refuse (not (own-replays c right [] r j holds i)) 16 (scripts-cause (table-is i .T) x)))) ∙
           rw (free .0, free .1)
 
@@ -85,6 +85,6 @@ module _ (c : Config) (x : List ℕ) (a : Answer) (e : a ≡ scripted c x) where
       class-done d answers′ pictures′ is told shown =
           record {
             number = ap (λ (b : Answer). b .refusal) is ∙ number-is;
-            told = told ∙ (λ i. choose (eqb (number-is i) 0) (fronted answers (class-answers (table-is i) x (moves-are i) ps)) answers);
-            shown = shown ∙ (λ i. choose (eqb (number-is i) 0) (fronted pictures (class-pictures (table-is i) x (moves-are i) ps)) pictures);
+            told = told ∙ (λ i. choose (eqb (number-is i) 0) (with-front answers (class-answers (table-is i) x (moves-are i) ps)) answers);
+            shown = shown ∙ (λ i. choose (eqb (number-is i) 0) (with-front pictures (class-pictures (table-is i) x (moves-are i) ps)) pictures);
           }

@@ -5,21 +5,21 @@ use mathlib.Core.List.{List, []}
 use lib.Dec.{eqb}
 use lib.ListN.{length}
 use Rattle.reference.specs.Refusal.{too-short, refuse}
-use Rattle.reference.specs.Lists.{choose, fronted}
+use Rattle.reference.specs.Lists.{choose, with-front}
 use Rattle.reference.specs.Start.{Config, config-cause}
 use Rattle.reference.specs.Script.{scripts-cause, class-answers, class-pictures}
-use Rattle.reference.specs.Session.{cramped}
+use Rattle.reference.specs.Session.{lacks-room}
 use Rattle.session.specs.Contract.{or-later}
 
 module _ (c : Config) (x ps answers pictures : List ℕ) where
   -- 1, 19, 10
   unfoldable pub class-number : ℕ
-  class-number = or-later (config-cause c) (or-later (scripts-cause (c .T) x) (refuse (cramped c (length ps) answers pictures) too-short 0))
+  class-number = or-later (config-cause c) (or-later (scripts-cause (c .T) x) (refuse (lacks-room c (length ps) answers pictures) too-short 0))
 
   -- each turn's answer, followed by the buffer's later bytes; refused, the buffer as it was
   unfoldable pub class-told : List ℕ
-  class-told = choose (eqb class-number 0) (fronted answers (class-answers c x [] ps)) answers
+  class-told = choose (eqb class-number 0) (with-front answers (class-answers c x [] ps)) answers
 
-  -- the picture after each turn, refused ones too, followed by the buffer's later bytes; refused, the buffer as it was
+  -- the picture after each turn, accepted or not, followed by the buffer's later bytes; refused, the buffer as it was
   unfoldable pub class-shown : List ℕ
-  class-shown = choose (eqb class-number 0) (fronted pictures (class-pictures c x [] ps)) pictures
+  class-shown = choose (eqb class-number 0) (with-front pictures (class-pictures c x [] ps)) pictures

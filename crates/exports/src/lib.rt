@@ -77,7 +77,7 @@ pub extern "C" fn humdayeg_ahead(picture: &[u8], thread: u8) -> u8
     }
 }
 
-// A class from a start table, scripts and turns (a byte each, the processor): each turn's answer and the picture after it, refused ones too, written
+// A class from a start table, scripts and turns (a byte each, the processor): each turn's answer and the picture after it, accepted or not, written
 // behind one another: 1, 19, 10, else 0. Refused, no byte of either buffer is written.
 #[no_mangle]
 pub extern "C" fn humdayeg_class(

@@ -2,7 +2,7 @@
 pub mod Worked
 pub mod Tests
 pub mod Each
-pub mod Fronted
+pub mod Fronts
 pub mod Sums
 pub mod Same
 pub mod Legal

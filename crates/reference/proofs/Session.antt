@@ -12,7 +12,7 @@ use Rattle.reference.specs.Start.{Config, start}
 use Rattle.reference.specs.Step.{Move}
 use Rattle.reference.specs.Cause.{accepted}
 use Rattle.reference.specs.Script.{scripts-ok}
-use Rattle.reference.specs.Session.{Request, move, turn, class, back, Lent, own, other, Call, moves, short, lent-length, cramped, replays, state-of, strange, turn-with, answer-to, answer, accept, after, left}
+use Rattle.reference.specs.Session.{Request, move, turn, class, back, Lent, own, other, Call, moves, short, lent-length, lacks-room, replays, state-of, strange, turn-with, answer-to, answer, accept, after, left}
 use Rattle.reference.proofs.Tests.{passed, both-left}
 use Rattle.reference.proofs.Sums.{choose-by}
 use Rattle.reference.proofs.Moves.{accepted-snoc, accepted-all-but-last}
@@ -30,7 +30,7 @@ module _ (c : Config) (n : ℕ) where
       accepted-snoc ms (start c) (turn-with c ms j x p) h (passed (not (scripts-ok (c .T) x)) _ _ (passed (short (lent-length n j)) _ _ e .1) .1)
   accepted-accept ms (class x ps answers pictures) own h e = accepted-class c x ps ms h
   accepted-accept ms (class x ps answers pictures) (other o) h e =
-      let f = passed (cramped c (length ps) answers pictures) _ _ (passed (short (length o)) _ _ e .1) .1 in
+      let f = passed (lacks-room c (length ps) answers pictures) _ _ (passed (short (length o)) _ _ e .1) .1 in
       accepted-class c x ps (moves (length ms) o) (replays-accepted (start c) (moves (length ms) o) (state-of c ms) (passed (strange c ms (other o)) _ _ f .0))
   accepted-accept ms back j h e = accepted-all-but-last ms (start c) h
 

@@ -73,5 +73,5 @@ each test lo zero = true
 each test lo (suc n) = test lo && each test (suc lo) n
 
 -- a buffer whose front is these bytes, its later bytes kept
-abbrev pub fronted : List ℕ → List ℕ → List ℕ
-fronted buffer bytes = bytes ++ drop (length bytes) buffer
+abbrev pub with-front : List ℕ → List ℕ → List ℕ
+with-front buffer bytes = bytes ++ drop (length bytes) buffer

@@ -39,7 +39,7 @@ full = 8
 abbrev pub nothing-applied : ℕ
 nothing-applied = 9
 
--- journal under 12,000 bytes, or buffer shorter than the picture
+-- journal under 12,000 bytes, or buffer shorter than what goes into it
 abbrev pub too-short : ℕ
 too-short = 10
 

@@ -14,7 +14,7 @@ use Rattle.reference.specs.Cause.{is-go, at-app, cause}
 use Rattle.reference.specs.Safe.{one-if}
 use Rattle.reference.specs.Snapshot.{picture}
 
--- ---- 13 bytes a thread, thread 1 first: its number of calls, then six pairs of action and operand
+-- ---- a script is 13 bytes, those of thread k from byte 13(k − 1) on: byte 0 says how many calls it has, bytes 2i + 1 and 2i + 2 are call i
 
 -- byte i of thread k's script, 0 where there is none
 abbrev pub script-byte : List ℕ → ℕ → ℕ → ℕ
@@ -31,7 +31,7 @@ script-action x k i = script-byte x k (2 * i + 1)
 abbrev pub script-operand : List ℕ → ℕ → ℕ → ℕ
 script-operand x k i = script-byte x k (2 * i + 2)
 
--- at most 6 calls, each with an action 1 to 6; the pairs past them are not looked at
+-- at most 6 calls, each with an action 1 to 6; no other byte is looked at
 unfoldable pub script-ok : List ℕ → ℕ → Bool
 script-ok x k = leb (script-length x k) 6 && each (λ i. in-range 1 6 (script-action x k i)) 0 (script-length x k)
 
@@ -56,7 +56,7 @@ progress s (a ∷ rest) k = choose (eqb (cause s a) 0) (one-if (call-of s a k) +
 
 -- ---- a turn
 
--- the next call of thread k, which has made i; exit when its script is spent
+-- the next call of thread k, which has made i; exit once it has made all
 abbrev pub next-call : List ℕ → ℕ → ℕ → ℕ → Move
 next-call x p k i = choose (ltb i (script-length x k)) (move-of p (script-action x k i) (script-operand x k i)) (move-of p 5 0)
 
@@ -88,7 +88,7 @@ module _ (c : Config) (x : List ℕ) where
   class-answers ms [] = []
   class-answers ms (p ∷ ps) = turn-cause ms p ∷ class-answers (turn-after ms p) ps
 
-  -- the pictures after each turn, refused ones too, one behind the other
+  -- the picture after each turn, accepted or not, one behind the other
   unfoldable pub class-pictures : List Move → List ℕ → List ℕ
   class-pictures ms [] = []
   class-pictures ms (p ∷ ps) = picture (run (start c) (turn-after ms p)) ++ class-pictures (turn-after ms p) ps

@@ -8,7 +8,7 @@ use mathlib.Core.List.{List, [], _∷_, _++_}
 use lib.Dec.{ltb, eqb}
 use lib.ListN.{length, getD, drop}
 use Rattle.reference.specs.Refusal.{too-short, nothing-applied, bad-journal, bad-script, refuse}
-use Rattle.reference.specs.Lists.{choose, if-zero, fronted}
+use Rattle.reference.specs.Lists.{choose, if-zero, with-front}
 use Rattle.reference.specs.State.{State, same-state}
 use Rattle.reference.specs.Start.{Config, config-cause, start}
 use Rattle.reference.specs.Step.{Move, move-of, run}
@@ -90,8 +90,8 @@ abbrev pub picture-size : Config → ℕ
 picture-size c = 8 + 12 * c .P + 8 * c .M + 4 * c .T
 
 -- the buffers have no room for the answers and the pictures of n turns
-abbrev pub cramped : Config → ℕ → List ℕ → List ℕ → Bool
-cramped c n answers pictures = ltb (length answers) n || ltb (length pictures) (n * picture-size c)
+abbrev pub lacks-room : Config → ℕ → List ℕ → List ℕ → Bool
+lacks-room c n answers pictures = ltb (length answers) n || ltb (length pictures) (n * picture-size c)
 
 -- made from s, the moves are all accepted and lead to e
 unfoldable pub replays : State → List Move → State → Bool
@@ -133,7 +133,7 @@ abbrev pub fills : Config → List Move → Request → Lent → List (List ℕ)
 fills c ms (move a) j = []
 fills c ms (turn x p) j = []
 fills c ms (class x ps answers pictures) j =
-    fronted answers (class-answers c x (standing-in ms j) ps) ∷ fronted pictures (class-pictures c x (standing-in ms j) ps) ∷ []
+    with-front answers (class-answers c x (standing-in ms j) ps) ∷ with-front pictures (class-pictures c x (standing-in ms j) ps) ∷ []
 fills c ms back j = []
 
 module _ (c : Config) (size : ℕ) where
@@ -146,7 +146,7 @@ module _ (c : Config) (size : ℕ) where
       (cause (state-of c ms) (turn-with c ms j x p)))
   answer-to ms (class x ps answers pictures) j =
       refuse (short (lent-length size j)) too-short
-      (refuse (cramped c (length ps) answers pictures) too-short
+      (refuse (lacks-room c (length ps) answers pictures) too-short
       (refuse (strange c ms j) bad-journal (scripts-cause (c .T) x)))
   answer-to ms back j =
       refuse (short (lent-length size j)) too-short

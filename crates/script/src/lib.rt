@@ -78,7 +78,7 @@ pub fn scripts_ok(t: u8, scripts: &[u8]) -> bool
     room(t, scripts) & each_ok(t, scripts)
 }
 
-// The call of processor p's thread k, which has made i calls: the next of its script, or exit when that is spent.
+// The call of processor p's thread k, which has made i calls: the next of its script, or exit once it has made all.
 pub fn next_call(scripts: &[u8], p: u8, k: u8, i: u16) -> Move
     ensures { λ r. ⌜ move-in r ≡ next-call (now (scripts .entry)) p k i ⌝ }
 {

@@ -14,7 +14,7 @@ use Rattle.reference.specs.Start.{Config, config-cause, start}
 use Rattle.reference.specs.Step.{Move}
 use Rattle.reference.specs.Cause.{accepted}
 use Rattle.reference.specs.Snapshot.{picture}
-use Rattle.reference.specs.Lists.{fronted}
+use Rattle.reference.specs.Lists.{with-front}
 use Rattle.reference.specs.Session.{state-of, picture-size}
 use Rattle.reference.specs.Safe.{In}
 use Rattle.reference.proofs.Start.{ranges}
@@ -51,6 +51,6 @@ module _ (c : Config) (ms : List Move) (right : config-cause c ≡ 0) (ok : acce
     pub fits : write-refusal (encode (state-of c ms)) (length b) ≡ 0
     fits = rw (state-right, le-ltb (length b) (picture-length (encode (state-of c ms))) (omega (arith, length-is)))
 
-    pub pictured : written (encode (state-of c ms)) b ≡ fronted b (picture (state-of c ms))
+    pub pictured : written (encode (state-of c ms)) b ≡ with-front b (picture (state-of c ms))
     unfolding written
     pictured = rw (fits, state-back, length-is ∙ sym picture-long)

@@ -19,7 +19,7 @@ use Rattle.reference.specs.Lists.{choose, tabulate}
 use Rattle.reference.specs.Start.{Config, config-cause}
 use Rattle.reference.specs.Step.{Move, move-of}
 use Rattle.reference.specs.Script.{scripts-ok, scripts-cause}
-use Rattle.reference.specs.Session.{cramped}
+use Rattle.reference.specs.Session.{lacks-room}
 use Rattle.session.specs.Contract.{shown, config-of, started, or-later, lent-refusal, move-refusal, moved, journal-after, replayed, progress-in, tested}
 use Rattle.session.proofs.Holding.{or-passed}
 use Rattle.turns.specs.Contract.{scripted, turn-made, turn-refusal, turned, turn-journal, class-refusal, classed, class-journal, answers-after, pictures-after}
@@ -145,7 +145,7 @@ module _ (r : Session) (j x ps answers pictures : List ℕ) where
       record { answer = rw (← e, z); journal = rw (← e, z); told = rw (← e, z); shown = rw (← e, z) }
 
   abbrev full : Bool
-  full = cramped (config-of r) (length ps) answers pictures
+  full = lacks-room (config-of r) (length ps) answers pictures
 
   -- 10, 15 or 10
   pub class-unfit : (n : ℕ) → n ≡ or-later (lent-refusal r (length j)) (refuse full 10 0) → (n ≡ 0 → ⊥) → ClassKept n

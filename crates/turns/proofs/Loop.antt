@@ -20,13 +20,13 @@ use Rattle.shown.proofs.Encode.{encode-decode}
 use Rattle.shown.proofs.Unique.{encode-sized}
 use Rattle.snapshot.specs.Model.{over, record-bytes}
 use Rattle.snapshot.proofs.Written.{over-written}
-use Rattle.reference.specs.Lists.{choose, fronted, tabulate}
+use Rattle.reference.specs.Lists.{choose, with-front, tabulate}
 use Rattle.reference.specs.Start.{Config, config-cause, start}
 use Rattle.reference.specs.Step.{Move, move-of}
 use Rattle.reference.specs.Cause.{cause, accepted}
 use Rattle.reference.specs.Snapshot.{picture}
 use Rattle.reference.specs.Script.{turned, turn-cause, turn-after, class-moves, class-answers, class-pictures}
-use Rattle.reference.specs.Session.{bytes, cramped, picture-size, replays, state-of}
+use Rattle.reference.specs.Session.{bytes, lacks-room, picture-size, replays, state-of}
 use Rattle.reference.proofs.Tests.{passed, both-left, both-right}
 use Rattle.reference.proofs.Same.{same-state-exact}
 use Rattle.reference.proofs.Laws.{applied-is}
@@ -44,7 +44,7 @@ use Rattle.session.proofs.Holding.{Agree, or-passed, whole-is}
 use Rattle.turns.specs.declared.taken.Taken.{Taken}
 use Rattle.turns.specs.Contract.{class-refusal}
 use Rattle.turns.specs.Model.{taken-of, Given}
-use Rattle.reference.proofs.Fronted.{fronted-same, fronted-length, fronted-more, fronted-set, fronted-part}
+use Rattle.reference.proofs.Fronts.{with-front-same, with-front-length, with-front-more, with-front-set, with-front-part}
 use Rattle.turns.proofs.Turned.{Turn, turn-taken}
 
 -- the pictures of a class are as long as the start table says
@@ -81,7 +81,7 @@ module _ (r : Session) (size : Sized (r .state)) (j x ps a b : List ℕ) (none :
   unfolding class-refusal
   fine =
       let first = or-passed (lent-refusal r (length j)) _ none in
-      let second = passed (cramped c (length ps) a b) _ _ (first .1) in
+      let second = passed (lacks-room c (length ps) a b) _ _ (first .1) in
       let third = passed (not (replayed r j)) _ _ (second .1) in
       let lent = lent-passed r (length j) (first .0) in
       let both = neither (ltb (length a) (length ps)) (ltb (length b) (length ps * picture-size c)) (second .0) in
@@ -117,9 +117,9 @@ module _ (r : Session) (size : Sized (r .state)) (j x ps a b : List ℕ) (none :
     pub place : at ≡ i * picture-size c
     pub state : s ≡ encode (state-of c (made i))
     pub calls-are : calls ≡ calls-of c (made i)
-    pub journal : j′ ≡ fronted j (bytes (made i))
-    pub told : a′ ≡ fronted a (class-answers c x ms (take i ps))
-    pub shows : b′ ≡ fronted b (class-pictures c x ms (take i ps))
+    pub journal : j′ ≡ with-front j (bytes (made i))
+    pub told : a′ ≡ with-front a (class-answers c x ms (take i ps))
+    pub shows : b′ ≡ with-front b (class-pictures c x ms (take i ps))
 
   pub going-start : (calls : List ℕ) → calls ≡ tabulate (progress-in r j) 0 33 → Going 0 0 (r .state) calls j a b
   unfolding class-moves class-answers class-pictures
@@ -129,7 +129,7 @@ module _ (r : Session) (size : Sized (r .state)) (j x ps a b : List ℕ) (none :
         place = omega arith;
         state = sym (encode-decode (r .state) size (state-right r size (fine .record-ok))) ∙ ap encode (agree .state);
         calls-are = e;
-        journal = fronted-same j (bytes ms) (ap (λ (n : ℕ). take n j) (length-bytes ms) ∙ whole-is r j agree (fine .enough));
+        journal = with-front-same j (bytes ms) (ap (λ (n : ℕ). take n j) (length-bytes ms) ∙ whole-is r j agree (fine .enough));
         told = refl;
         shows = refl;
       }
@@ -147,25 +147,25 @@ module _ (r : Session) (size : Sized (r .state)) (j x ps a b : List ℕ) (none :
 
   module _ (i at : ℕ) (s : Record) (calls j′ a′ b′ : List ℕ) (g : Going i at s calls j′ a′ b′) where
     pub journal-size : length j′ ≡ length j
-    journal-size = ap length (g .journal) ∙ fronted-length j (bytes (made i)) (omega (arith, length-bytes (made i), few-moves i, fine .enough))
+    journal-size = ap length (g .journal) ∙ with-front-length j (bytes (made i)) (omega (arith, length-bytes (made i), few-moves i, fine .enough))
 
     pub told-size : length a′ ≡ length a
-    told-size = ap length (g .told) ∙ fronted-length a (class-answers c x ms (take i ps)) (omega (arith, told-length i (g .few), fine .room .0))
+    told-size = ap length (g .told) ∙ with-front-length a (class-answers c x ms (take i ps)) (omega (arith, told-length i (g .few), fine .room .0))
 
     short-of : i * picture-size c ≤ length ps * picture-size c
     short-of = mul-le-mul-right (picture-size c) (g .few)
 
     pub shown-size : length b′ ≡ length b
-    shown-size = ap length (g .shows) ∙ fronted-length b (class-pictures c x ms (take i ps)) (omega (arith, shown-length i (g .few), short-of, fine .room .1))
+    shown-size = ap length (g .shows) ∙ with-front-length b (class-pictures c x ms (take i ps)) (omega (arith, shown-length i (g .few), short-of, fine .room .1))
 
     pub going-end : i ≡ length ps → Given r j x ps a b s j′ a′ b′
     going-end e =
         let whole : take i ps ≡ ps = take-all i ps (omega arith) in
         record {
           state = g .state ∙ ap (λ (l : List ℕ). encode (state-of c (class-moves c x ms l))) whole;
-          journal = g .journal ∙ ap (λ (l : List ℕ). fronted j (bytes (class-moves c x ms l))) whole;
-          told = g .told ∙ ap (λ (l : List ℕ). fronted a (class-answers c x ms l)) whole;
-          shown = g .shows ∙ ap (λ (l : List ℕ). fronted b (class-pictures c x ms l)) whole;
+          journal = g .journal ∙ ap (λ (l : List ℕ). with-front j (bytes (class-moves c x ms l))) whole;
+          told = g .told ∙ ap (λ (l : List ℕ). with-front a (class-answers c x ms l)) whole;
+          shown = g .shows ∙ ap (λ (l : List ℕ). with-front b (class-pictures c x ms l)) whole;
         }
 
     module _ (h : i < length ps) where
@@ -199,7 +199,7 @@ module _ (r : Session) (size : Sized (r .state)) (j x ps a b : List ℕ) (none :
         stored l n q = set (set (set l (3 * n) (q .processor)) (3 * n + 1) (q .action)) (3 * n + 2) (q .operand)
 
         -- an accepted move joins the journal
-        joined : (u : Bool) → eqb (turn-cause c x (made i) p) 0 ≡ u → choose u (stored j′ (length (made i)) m) j′ ≡ fronted j (bytes (choose u (made i ++ m ∷ []) (made i)))
+        joined : (u : Bool) → eqb (turn-cause c x (made i) p) 0 ≡ u → choose u (stored j′ (length (made i)) m) j′ ≡ with-front j (bytes (choose u (made i ++ m ∷ []) (made i)))
         unfolding written-at
         joined true z =
             let n : ℕ = length (made i) in
@@ -207,8 +207,8 @@ module _ (r : Session) (size : Sized (r .state)) (j x ps a b : List ℕ) (none :
             let inside : 3 * n + 3 ≤ length j′ = omega (arith, legal (state-of c (made i)) m free .room, applied-is c (made i), journal-size, fine .enough) in
             sets-written j′ n m inside ∙
             (λ d. take (3 * n) (g .journal d) ++ bytes (m ∷ []) ++ drop (3 * n + 3) (g .journal d)) ∙
-            ap (λ (k : ℕ). take (3 * n) (fronted j (bytes (made i))) ++ bytes (m ∷ []) ++ drop (3 * n + k) (fronted j (bytes (made i)))) (sym (length-bytes (m ∷ []))) ∙
-            fronted-more j (bytes (made i)) (bytes (m ∷ [])) (3 * n) (length-bytes (made i)) ∙ ap (fronted j) (sym (bytes-snoc (made i) m))
+            ap (λ (k : ℕ). take (3 * n) (with-front j (bytes (made i))) ++ bytes (m ∷ []) ++ drop (3 * n + k) (with-front j (bytes (made i)))) (sym (length-bytes (m ∷ []))) ∙
+            with-front-more j (bytes (made i)) (bytes (m ∷ [])) (3 * n) (length-bytes (made i)) ∙ ap (with-front j) (sym (bytes-snoc (made i) m))
         joined false z = g .journal
 
         -- the picture joins the pictures
@@ -227,19 +227,19 @@ module _ (r : Session) (size : Sized (r .state)) (j x ps a b : List ℕ) (none :
         part-length : length (part b′) ≡ length b′ - at
         part-length = length-take-le (length b′ - at) (drop at b′) (omega (arith, length-drop at b′))
 
-        shown-next : (w : List ℕ) → w ≡ over (part b′) (record-bytes (t .state)) → w ≡ fronted (part b′) (picture (state-of c on))
+        shown-next : (w : List ℕ) → w ≡ over (part b′) (record-bytes (t .state)) → w ≡ with-front (part b′) (picture (state-of c on))
         shown-next w e =
             e ∙ ap (λ (q : Record). over (part b′) (record-bytes q)) (turn .state) ∙
             over-written (encode (state-of c on)) (part b′) (encode-sized (state-of c on)) (reached.state-right c on right on-ok) ∙
             pictured c on right on-ok (part b′) (omega (arith, part-length, shown-size, next-fits))
 
         shown-more : (w : List ℕ) → w ≡ over (part b′) (record-bytes (t .state)) →
-            take at b′ ++ (w ++ drop (length b′ - at) (drop at b′)) ≡ fronted b (class-pictures c x ms (take (i + 1) ps))
+            take at b′ ++ (w ++ drop (length b′ - at) (drop at b′)) ≡ with-front b (class-pictures c x ms (take (i + 1) ps))
         shown-more w e =
             (λ d. take at (g .shows d) ++ (w ++ drop (length (g .shows d) - at) (drop at (g .shows d)))) ∙
-            fronted-part b before (picture (state-of c on)) at (shown-length i (g .few) ∙ sym (g .place)) (omega (arith, picture-long c on right on-ok, next-fits)) w
-            (shown-next w e ∙ ap (λ (l : List ℕ). fronted (part l) (picture (state-of c on))) (g .shows)) ∙
-            ap (fronted b) (sym (ap (class-pictures c x ms) one-more ∙ pictures-more c x (take i ps) ms p))
+            with-front-part b before (picture (state-of c on)) at (shown-length i (g .few) ∙ sym (g .place)) (omega (arith, picture-long c on right on-ok, next-fits)) w
+            (shown-next w e ∙ ap (λ (l : List ℕ). with-front (part l) (picture (state-of c on))) (g .shows)) ∙
+            ap (with-front b) (sym (ap (class-pictures c x ms) one-more ∙ pictures-more c x (take i ps) ms p))
 
         pub going-more : (j″ a″ w : List ℕ) → j″ ≡ choose (eqb (t .refusal) 0) (stored j′ (s .applied) (move-of p (t .action) (t .operand))) j′ →
             a″ ≡ set a′ i (t .refusal) → w ≡ over (take (length b′ - at) (drop at b′)) (record-bytes (t .state)) →
@@ -252,10 +252,10 @@ module _ (r : Session) (size : Sized (r .state)) (j x ps a b : List ℕ) (none :
               calls-are = turn .calls ∙ ap (calls-of c) (sym made-more);
               journal =
                   je ∙ (λ d. choose (eqb (turn .refusal d) 0) (stored j′ (applied d) (turn .move d)) j′) ∙ joined (eqb (turn-cause c x (made i) p) 0) refl ∙
-                  ap (λ (l : List Move). fronted j (bytes l)) (sym made-more);
+                  ap (λ (l : List Move). with-front j (bytes l)) (sym made-more);
               told =
                   ae ∙ (λ d. set (g .told d) i (turn .refusal d)) ∙
-                  fronted-set a (class-answers c x ms (take i ps)) (turn-cause c x (made i) p) i (told-length i (g .few)) (omega (arith, fine .room .0)) ∙
-                  ap (fronted a) (sym (ap (class-answers c x ms) one-more ∙ answers-more c x (take i ps) ms p));
+                  with-front-set a (class-answers c x ms (take i ps)) (turn-cause c x (made i) p) i (told-length i (g .few)) (omega (arith, fine .room .0)) ∙
+                  ap (with-front a) (sym (ap (class-answers c x ms) one-more ∙ answers-more c x (take i ps) ms p));
               shows = shown-more w we;
             }

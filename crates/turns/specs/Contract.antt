@@ -12,11 +12,11 @@ use Rattle.state.specs.Record.{zero-session}
 use Rattle.state.specs.Association.{session-record}
 use Rattle.session.specs.Contract.{shown, config-of, answered, or-later, lent-refusal, standing, replayed, progress-in, move-refusal, moved, journal-after}
 use Rattle.reference.specs.Refusal.{too-short, bad-journal, refuse}
-use Rattle.reference.specs.Lists.{choose, fronted}
+use Rattle.reference.specs.Lists.{choose, with-front}
 use Rattle.reference.specs.Start.{Config, config-cause, start}
 use Rattle.reference.specs.Step.{Move}
 use Rattle.reference.specs.Script.{scripts-cause, turn-move, class-moves, class-answers, class-pictures}
-use Rattle.reference.specs.Session.{bytes, state-of, cramped}
+use Rattle.reference.specs.Session.{bytes, state-of, lacks-room}
 
 -- ---- scripted start: 1, 19; refused, an all-zero record
 
@@ -46,7 +46,7 @@ module _ (r : Session) (j x ps answers pictures : List ℕ) where
   unfoldable pub class-refusal : ℕ
   class-refusal =
       or-later (lent-refusal r (length j))
-      (refuse (cramped (config-of r) (length ps) answers pictures) too-short
+      (refuse (lacks-room (config-of r) (length ps) answers pictures) too-short
       (refuse (not (replayed r j)) bad-journal (scripts-cause (r .state .t) x)))
 
   -- the moves that stand after it
@@ -57,10 +57,10 @@ module _ (r : Session) (j x ps answers pictures : List ℕ) where
   classed = answered class-refusal (session-record (state-of (config-of r) class-made) (r .initial)) r
 
   unfoldable pub class-journal : List ℕ
-  class-journal = choose (eqb class-refusal 0) (fronted j (bytes class-made)) j
+  class-journal = choose (eqb class-refusal 0) (with-front j (bytes class-made)) j
 
   unfoldable pub answers-after : List ℕ
-  answers-after = choose (eqb class-refusal 0) (fronted answers (class-answers (config-of r) x (standing r j) ps)) answers
+  answers-after = choose (eqb class-refusal 0) (with-front answers (class-answers (config-of r) x (standing r j) ps)) answers
 
   unfoldable pub pictures-after : List ℕ
-  pictures-after = choose (eqb class-refusal 0) (fronted pictures (class-pictures (config-of r) x (standing r j) ps)) pictures
+  pictures-after = choose (eqb class-refusal 0) (with-front pictures (class-pictures (config-of r) x (standing r j) ps)) pictures

@@ -12,7 +12,7 @@ use Rattle.state.specs.declared.Session.{Session}
 use Rattle.state.specs.Association.{encode}
 use Rattle.state.specs.Record.{processor-of}
 use Rattle.step.specs.Model.{moved-of, noted}
-use Rattle.reference.specs.Lists.{choose, tabulate, fronted}
+use Rattle.reference.specs.Lists.{choose, tabulate, with-front}
 use Rattle.reference.specs.Step.{Move, move-of}
 use Rattle.reference.specs.Script.{next-call, class-answers, class-pictures}
 use Rattle.reference.specs.Session.{bytes, state-of}
@@ -49,6 +49,6 @@ pub record Ready (r : Session) (calls j x ps answers pictures : List ℕ) : Type
 -- what it gives: the state of the moves that then stand, in the journal too, and the answers and pictures
 pub record Given (r : Session) (j x ps answers pictures : List ℕ) (s : State) (j′ answers′ pictures′ : List ℕ) : Type 0 where
   pub state : s ≡ encode (state-of (config-of r) (class-made r j x ps answers pictures))
-  pub journal : j′ ≡ fronted j (bytes (class-made r j x ps answers pictures))
-  pub told : answers′ ≡ fronted answers (class-answers (config-of r) x (standing r j) ps)
-  pub shown : pictures′ ≡ fronted pictures (class-pictures (config-of r) x (standing r j) ps)
+  pub journal : j′ ≡ with-front j (bytes (class-made r j x ps answers pictures))
+  pub told : answers′ ≡ with-front answers (class-answers (config-of r) x (standing r j) ps)
+  pub shown : pictures′ ≡ with-front pictures (class-pictures (config-of r) x (standing r j) ps)

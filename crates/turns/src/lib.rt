@@ -81,7 +81,7 @@ pub fn turn(session: Session, journal: &mut [u8], scripts: &[u8], p: u8) -> Answ
     }
 }
 
-// A class: the turns of the processors in `turns`, one after the other, each answer and the picture after each turn, refused ones too, written behind one another.
+// A class: the turns of the processors in `turns`, one after the other, with the answer and the picture after each turn, accepted or not, written behind one another.
 // Refused as a whole, record, journal and buffers stay.
 pub fn class(
     session: Session,
@@ -110,10 +110,10 @@ pub fn class(
         };
     }
     let found = test_journal(session, journal);
-    let strange = found.refusal;
-    if strange != 0 {
+    let mismatch = found.refusal;
+    if mismatch != 0 {
         return Answer {
-            refusal: strange,
+            refusal: mismatch,
             session,
         };
     }
