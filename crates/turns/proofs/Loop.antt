@@ -58,6 +58,15 @@ module _ (c : Config) (right : config-cause c ≡ 0) (x : List ℕ) where
       let one = picture-long c on right ok′ in
       length-append (picture (state-of c on)) (class-pictures c x on ps) ∙ omega (arith, pictures-length ps on ok′, suc-mul (length ps) (picture-size c))
 
+-- what the code's indices and sums need after i turns: the buffers' lengths, and room for the next answer and picture
+pub record Rooms (j ps a b : List ℕ) (size i at : ℕ) (j′ a′ b′ : List ℕ) : Type 0 where
+  pub few : i ≤ length ps
+  pub journal : length j′ ≡ length j
+  pub answers : length a′ ≡ length a
+  pub pictures : length b′ ≡ length b
+  pub room : length ps ≤ length a
+  pub next : i < length ps → at + size ≤ length b
+
 -- neither test is passed
 neither : (a b : Bool) → a || b ≡ false → (a ≡ false) × (b ≡ false)
 neither true b e = absurd (true≢false e)
@@ -146,16 +155,16 @@ module _ (r : Session) (size : Sized (r .state)) (j x ps a b : List ℕ) (none :
   shown-length i h = pictures-length c right x (take i ps) ms (agree .legal) ∙ ap (λ (n : ℕ). n * picture-size c) (length-take-le i ps h)
 
   module _ (i at : ℕ) (s : Record) (calls j′ a′ b′ : List ℕ) (g : Going i at s calls j′ a′ b′) where
-    pub journal-size : length j′ ≡ length j
+    journal-size : length j′ ≡ length j
     journal-size = ap length (g .journal) ∙ with-front-length j (bytes (made i)) (omega (arith, length-bytes (made i), few-moves i, fine .enough))
 
-    pub told-size : length a′ ≡ length a
+    told-size : length a′ ≡ length a
     told-size = ap length (g .told) ∙ with-front-length a (class-answers c x ms (take i ps)) (omega (arith, told-length i (g .few), fine .room .0))
 
     short-of : i * picture-size c ≤ length ps * picture-size c
     short-of = mul-le-mul-right (picture-size c) (g .few)
 
-    pub shown-size : length b′ ≡ length b
+    shown-size : length b′ ≡ length b
     shown-size = ap length (g .shows) ∙ with-front-length b (class-pictures c x ms (take i ps)) (omega (arith, shown-length i (g .few), short-of, fine .room .1))
 
     pub going-end : i ≡ length ps → Given r j x ps a b s j′ a′ b′
@@ -168,15 +177,18 @@ module _ (r : Session) (size : Sized (r .state)) (j x ps a b : List ℕ) (none :
           shown = g .shows ∙ ap (λ (l : List ℕ). with-front b (class-pictures c x ms l)) whole;
         }
 
+    -- there is room for one more picture
+    next-fits : i < length ps → at + picture-size c ≤ length b
+    next-fits h =
+        let more : suc i * picture-size c ≤ length ps * picture-size c = mul-le-mul-right (picture-size c) h in
+        omega (arith, suc-mul i (picture-size c), g .place, fine .room .1)
+
+    pub rooms : Rooms j ps a b (picture-size c) i at j′ a′ b′
+    rooms = record { few = g .few; journal = journal-size; answers = told-size; pictures = shown-size; room = fine .room .0; next = next-fits }
+
     module _ (h : i < length ps) where
       abbrev p : ℕ
       p = getD ps i 0
-
-      -- there is room for one more picture
-      pub next-fits : at + picture-size c ≤ length b
-      next-fits =
-          let more : suc i * picture-size c ≤ length ps * picture-size c = mul-le-mul-right (picture-size c) h in
-          omega (arith, suc-mul i (picture-size c), g .place, fine .room .1)
 
       one-more : take (i + 1) ps ≡ take i ps ++ p ∷ []
       one-more = ap (λ (n : ℕ). take n ps) (add-one i) ∙ take-suc ps i 0 h
@@ -231,13 +243,13 @@ module _ (r : Session) (size : Sized (r .state)) (j x ps a b : List ℕ) (none :
         shown-next w e =
             e ∙ ap (λ (q : Record). over (part b′) (record-bytes q)) (turn .state) ∙
             over-written (encode (state-of c on)) (part b′) (encode-sized (state-of c on)) (reached.state-right c on right on-ok) ∙
-            pictured c on right on-ok (part b′) (omega (arith, part-length, shown-size, next-fits))
+            pictured c on right on-ok (part b′) (omega (arith, part-length, shown-size, next-fits h))
 
         shown-more : (w : List ℕ) → w ≡ over (part b′) (record-bytes (t .state)) →
             take at b′ ++ (w ++ drop (length b′ - at) (drop at b′)) ≡ with-front b (class-pictures c x ms (take (i + 1) ps))
         shown-more w e =
             (λ d. take at (g .shows d) ++ (w ++ drop (length (g .shows d) - at) (drop at (g .shows d)))) ∙
-            with-front-part b before (picture (state-of c on)) at (shown-length i (g .few) ∙ sym (g .place)) (omega (arith, picture-long c on right on-ok, next-fits)) w
+            with-front-part b before (picture (state-of c on)) at (shown-length i (g .few) ∙ sym (g .place)) (omega (arith, picture-long c on right on-ok, next-fits h)) w
             (shown-next w e ∙ ap (λ (l : List ℕ). with-front (part l) (picture (state-of c on))) (g .shows)) ∙
             ap (with-front b) (sym (ap (class-pictures c x ms) one-more ∙ pictures-more c x (take i ps) ms p))
 

@@ -11,9 +11,15 @@ use Rattle.state.specs.declared.Session.{Session}
 use Rattle.state.proofs.Sized.{Sized, session-sized}
 use Rattle.reference.specs.Lists.{tabulate}
 use Rattle.session.specs.Contract.{progress-in}
+use Rattle.snapshot.proofs.writer.put.Reads as put-reads
 use Rattle.turns.specs.Contract.{class-refusal}
-use Rattle.turns.proofs.Loop.{Going, going-start, going-more, going-end, fine, next-fits, journal-size, told-size, shown-size}
+use Rattle.turns.proofs.Loop.{Going, going-start, going-more, going-end, Rooms, rooms}
+use Rattle.turns.proofs.sequence.picture_size.Reads as picture-size-reads
+use Rattle.turns.proofs.sequence.keep_move.Reads as keep-move-reads
+use Rattle.turns.proofs.taken.take_turn.Reads as take-turn-reads
 use Rattle.turns.proofs.sequence.take_turns.Statement.{statement}
+use Rattle.turns.proofs.sequence.take_turns.Reads as reads
+use Rattle.turns.proofs.sequence.take_turns.Lts as lts
 use Rattle.turns.proofs.sequence.take_turns.Tie as tie
 
 -- the record with B
@@ -29,64 +35,53 @@ Inv-loop journal₀ scripts turns answers₀ pictures₀ state₀ calls₀ size 
 abbrev μ-loop : tie.MeasureT-loop
 μ-loop journal₀ scripts turns answers₀ pictures₀ state₀ calls₀ size at₀ i₀ journal answers pictures state calls at i = length turns - i
 
+-- the loop's test, and what the invariant says there of the record that was handed in
+abbrev Stage : Type 0
+Stage =
+    lts.At-loop (
+      picture-size-reads.Asked,
+      picture-size-reads.Learnt,
+      take-turn-reads.Asked,
+      take-turn-reads.Learnt,
+      keep-move-reads.Asked,
+      keep-move-reads.Learnt,
+      put-reads.Asked,
+      put-reads.Learnt,
+    )
+    reads.Pre reads.Post Inv-loop μ-loop
+
+rooms-at : (l : Stage) →
+    let a = l .before .before .before .before .before .before .before .before .args in
+    Rooms (a .journal .now) (a .turns .now) (a .answers .now) (a .pictures .now) (l .before .picture-size .result) (l .loop .i) (l .loop .at) (l .loop .journal)
+    (l .loop .answers) (l .loop .pictures)
+rooms-at l =
+    let s = l .before .before .before .before .before .before .before .before in
+    let a = s .args in
+    let r = a .session in
+    let z = session-sized (s .good .0) in
+    let none = s .pre .none in
+    subst
+    (λ (n : ℕ).
+    Rooms (a .journal .now) (a .turns .now) (a .answers .now) (a .pictures .now) n (l .loop .i) (l .loop .at) (l .loop .journal) (l .loop .answers) (l .loop .pictures))
+    (sym (l .before .picture-size .ensures)) (rooms r z _ _ _ _ _ none _ _ _ _ _ _ _ (l .loop .inv (r .initial) z none (s .pre .counted)))
+
 loop-holds : tie.Need-loop-holds Inv-loop μ-loop
 loop-holds c = λ b z none e. going-start _ z _ _ _ _ _ none _ e
 
 slice-write-answers : tie.Need-slice-write-answers Inv-loop μ-loop
-slice-write-answers c =
-    let l = c .before .before .before .before .before .before .before in
-    let s = l .before .before .before .before .before .before .before .before in
-    let r = s .args .session in
-    let z = session-sized (s .good .0) in
-    let none = s .pre .none in
-    let g = l .loop .inv (r .initial) z none (s .pre .counted) in
-    omega (arith, told-size r z _ _ _ _ _ none _ _ _ _ _ _ _ g, fine r z _ _ _ _ _ none .room .0)
+slice-write-answers c = let m = rooms-at (c .before .before .before .before .before .before .before) in omega (arith, c .before .before .before .before .before .before .loop-test .taken)
 
--- where the picture goes there is room for it
-fits : tie.Need-sub-put Inv-loop μ-loop
-fits c =
-    let l = c .before .before .before .before .before .before .before .before .before in
-    let s = l .before .before .before .before .before .before .before .before in
-    let r = s .args .session in
-    let z = session-sized (s .good .0) in
-    let none = s .pre .none in
-    let g = l .loop .inv (r .initial) z none (s .pre .counted) in
-    omega (arith, shown-size r z _ _ _ _ _ none _ _ _ _ _ _ _ g, next-fits r z _ _ _ _ _ none _ _ _ _ _ _ _ g (omega arith))
+sub-put : tie.Need-sub-put Inv-loop μ-loop
+sub-put c = let m = rooms-at (c .before .before .before .before .before .before .before .before .before) in omega (arith, m .next (c .before .before .before .before .before .before .before .before .loop-test .taken))
 
 part-put-start : tie.Need-part-put-start Inv-loop μ-loop
-part-put-start c =
-    let l = c .before .before .before .before .before .before .before .before .before in
-    let s = l .before .before .before .before .before .before .before .before in
-    let r = s .args .session in
-    let z = session-sized (s .good .0) in
-    let none = s .pre .none in
-    let g = l .loop .inv (r .initial) z none (s .pre .counted) in
-    let size = shown-size r z _ _ _ _ _ none _ _ _ _ _ _ _ g in
-    let room = next-fits r z _ _ _ _ _ none _ _ _ _ _ _ _ g (omega arith) in
-    search needs
+part-put-start c = let m = rooms-at (c .before .before .before .before .before .before .before .before .before) in let h = m .next (c .before .before .before .before .before .before .before .before .loop-test .taken) in search needs
 
 part-put-end : tie.Need-part-put-end Inv-loop μ-loop
-part-put-end c =
-    let l = c .before .before .before .before .before .before .before .before .before in
-    let s = l .before .before .before .before .before .before .before .before in
-    let r = s .args .session in
-    let z = session-sized (s .good .0) in
-    let none = s .pre .none in
-    let g = l .loop .inv (r .initial) z none (s .pre .counted) in
-    let size = shown-size r z _ _ _ _ _ none _ _ _ _ _ _ _ g in
-    let room = next-fits r z _ _ _ _ _ none _ _ _ _ _ _ _ g (omega arith) in
-    search needs
+part-put-end c = let m = rooms-at (c .before .before .before .before .before .before .before .before .before) in let h = m .next (c .before .before .before .before .before .before .before .before .loop-test .taken) in search needs
 
 add-at : tie.Need-add-at Inv-loop μ-loop
-add-at c =
-    let l = c .before .before .before .before .before .before .before .before .before .before .before .before .before in
-    let s = l .before .before .before .before .before .before .before .before in
-    let r = s .args .session in
-    let z = session-sized (s .good .0) in
-    let none = s .pre .none in
-    let g = l .loop .inv (r .initial) z none (s .pre .counted) in
-    let room = next-fits r z _ _ _ _ _ none _ _ _ _ _ _ _ g (omega (arith, c .before .before .before .before .before .before .before .before .before .before .before .before .loop-test .taken)) in
-    omega (arith, l .before .picture-size .ensures)
+add-at c = let s = c .before .before .before .before .before .before .before .before .before .before .before .before .before .before .before .before .before .before .before .before .before in let m = rooms-at (c .before .before .before .before .before .before .before .before .before .before .before .before .before) in omega (arith, m .next (c .before .before .before .before .before .before .before .before .before .before .before .before .loop-test .taken))
 
 loop-again : tie.Need-loop-again Inv-loop μ-loop
 loop-again c =
@@ -102,49 +97,16 @@ loop-again c =
     (λ (n : ℕ).
     Going _ z _ _ _ _ _ none (l .loop .i + 1) (at + n) (turn .result .state) (turn .result .calls) (kept .last .0)
     (set (l .loop .answers) (l .loop .i) (turn .result .refusal)) after) (sym (l .before .picture-size .ensures))
-    (going-more _ z _ _ _ _ _ none _ _ _ _ _ _ _ (l .loop .inv b z none e) (omega (arith, c .before .before .before .before .before .before .before .before .before .before .before .before .loop-test .taken)) (turn .result) (turn .ensures) (kept .last .0) _ (wrote .last .0)
-    (kept .ensures) refl (wrote .ensures .1))
-
-same-length : tie.Need-same-length Inv-loop μ-loop
-same-length c =
-    let l = c .before in
-    let s = l .before .before .before .before .before .before .before .before in
-    let r = s .args .session in
-    let z = session-sized (s .good .0) in
-    let none = s .pre .none in
-    let g = l .loop .inv (r .initial) z none (s .pre .counted) in
-    journal-size r z _ _ _ _ _ none _ _ _ _ _ _ _ g
-
-same-length-2 : tie.Need-same-length-2 Inv-loop μ-loop
-same-length-2 c =
-    let l = c .before in
-    let s = l .before .before .before .before .before .before .before .before in
-    let r = s .args .session in
-    let z = session-sized (s .good .0) in
-    let none = s .pre .none in
-    let g = l .loop .inv (r .initial) z none (s .pre .counted) in
-    told-size r z _ _ _ _ _ none _ _ _ _ _ _ _ g
-
-same-length-3 : tie.Need-same-length-3 Inv-loop μ-loop
-same-length-3 c =
-    let l = c .before in
-    let s = l .before .before .before .before .before .before .before .before in
-    let r = s .args .session in
-    let z = session-sized (s .good .0) in
-    let none = s .pre .none in
-    let g = l .loop .inv (r .initial) z none (s .pre .counted) in
-    shown-size r z _ _ _ _ _ none _ _ _ _ _ _ _ g
+    (going-more _ z _ _ _ _ _ none _ _ _ _ _ _ _ (l .loop .inv b z none e) (c .before .before .before .before .before .before .before .before .before .before .before .before .loop-test .taken) (turn .result) (turn .ensures) (kept .last .0) _
+    (wrote .last .0) (kept .ensures) refl (wrote .ensures .1))
 
 returns : tie.Need-returns Inv-loop μ-loop
 returns c =
     let l = c .before in
     let s = l .before .before .before .before .before .before .before .before in
-    let r = s .args .session in
     let z = session-sized (s .good .0) in
     let none = s .pre .none in
-    let g = l .loop .inv (r .initial) z none (s .pre .counted) in
-    let e : l .loop .i ≡ length (s .args .turns .now) = omega (arith, g .few) in
-    going-end r z _ _ _ _ _ none _ _ _ _ _ _ _ g e
+    going-end (s .args .session) z _ _ _ _ _ none _ _ _ _ _ _ _ (l .loop .inv (s .args .session .initial) z none (s .pre .counted)) (omega (arith, rooms-at l .few))
 
 pub take-turns-spec : {M : Type 1} → statement M
 take-turns-spec =
@@ -158,7 +120,7 @@ take-turns-spec =
     (λ c κs. search needs)
     (λ c κs. search needs)
     slice-write-answers
-    fits
+    sub-put
     part-put-start
     part-put-end
     (λ c κs. search needs)
@@ -166,7 +128,7 @@ take-turns-spec =
     (λ c. omega (arith, c .before .before .before .before .before .before .before .before .before .before .before .before .loop-test .taken, c .before .before .before .before .before .before .before .before .before .before .before .before .before .before .before .before .before .before .before .before .before .good .1 .1 .1 .1 .0))
     (λ c. omega (arith, c .before .before .before .before .before .before .before .before .before .before .before .before .loop-test .taken))
     loop-again
-    same-length
-    same-length-2
-    same-length-3
+    (λ c. rooms-at (c .before) .journal)
+    (λ c. rooms-at (c .before) .answers)
+    (λ c. rooms-at (c .before) .pictures)
     returns)
