@@ -23,7 +23,7 @@ extern "C" {
 #endif
 
 enum {
-    HUMDAYEG_BAD_TABLE = 1,     /* P, T, M or B outside its range */
+    HUMDAYEG_BAD_TABLE = 1,     /* P, T, M, B or the fifth number outside its range */
     HUMDAYEG_NO_PROCESSOR = 2,  /* no such processor */
     HUMDAYEG_BAD_OPERAND = 3,   /* action over 6, or operand not as the action wants it */
     HUMDAYEG_CALL_AWAY = 4,     /* call elsewhere than at App */
@@ -52,6 +52,16 @@ enum {
 #define HUMDAYEG_MOST_PICTURE_BYTES 296
 
 /*
+ * Byte 7 of a picture is the table's fifth number: 0 with a single ready queue, 1 with one for
+ * each processor. Where it is 1, byte 3 is 0 and
+ *     byte 5 of a processor's record is its look number: how many places after its own queue,
+ *            going round, the one is that it tries next at CI2; elsewhere 0
+ *     byte 11 of a processor's record is the first of its own ready chain
+ *     byte 1 of a ready thread's record is the processor whose queue it is in
+ * Where it is 0, these three are 0.
+ */
+
+/*
  * Replays moves from a start table and writes the picture of the state that they lead to.
  *
  * p, t, m, b: the start table: processors 1 to 8, threads 1 to 32, mutexes 1 to 8, threads
@@ -76,6 +86,17 @@ uint8_t humdayeg_replay(uint8_t p, uint8_t t, uint8_t m, uint8_t b,
                         const uint8_t *moves, size_t moves_len,
                         uint8_t *picture, size_t picture_len,
                         uint32_t *place);
+
+/*
+ * The same of a start table with a fifth number.
+ *
+ * stealing: 0 for a single ready queue, which humdayeg_replay has; 1 for a ready queue for each
+ *     processor; any other is refused by 1.
+ */
+uint8_t humdayeg_replay_with(uint8_t p, uint8_t t, uint8_t m, uint8_t b, uint8_t stealing,
+                             const uint8_t *moves, size_t moves_len,
+                             uint8_t *picture, size_t picture_len,
+                             uint32_t *place);
 
 /*
  * Takes the turns of a class from a start table, each thread calling by its script, and writes
@@ -112,6 +133,15 @@ uint8_t humdayeg_class(uint8_t p, uint8_t t, uint8_t m, uint8_t b,
                        const uint8_t *turns, size_t turns_len,
                        uint8_t *answers, size_t answers_len,
                        uint8_t *pictures, size_t pictures_len);
+
+/*
+ * The same of a start table with a fifth number, which is as for humdayeg_replay_with.
+ */
+uint8_t humdayeg_class_with(uint8_t p, uint8_t t, uint8_t m, uint8_t b, uint8_t stealing,
+                            const uint8_t *scripts, size_t scripts_len,
+                            const uint8_t *turns, size_t turns_len,
+                            uint8_t *answers, size_t answers_len,
+                            uint8_t *pictures, size_t pictures_len);
 
 /*
  * Reads a picture and answers its number: 0 if the bytes are a picture, else the first that

@@ -5,6 +5,7 @@ use mathlib.Core.Bool.{Bool, true, false, _&&_, _||_, not, true≢false}
 use mathlib.Core.List.{List, [], _∷_}
 use mathlib.Core.Path.{_≡_, refl, ap, sym, _∙_}
 use native.Mathlib.Numerals.{add-one}
+use native.Mathlib.Omega.{arith}
 use lib.Dec.{eqb, leb, ltb}
 use borrow.Author.Tests.{leb-true, not-false}
 use Rattle.state.specs.declared.Thread.{Thread}
@@ -12,11 +13,12 @@ use Rattle.state.specs.declared.Processor as declared
 use Rattle.state.specs.Record.{thread-of, processor-of}
 use Rattle.state.specs.Association.{encode}
 use Rattle.step.specs.declared.View as code
-use Rattle.step.specs.Model.{cause-of, operand-right, refusal-here, nothing-there, breaks-at, step-breaks-of, view-of}
+use Rattle.step.specs.Model.{index-of, cause-of, operand-right, refusal-here, nothing-there, breaks-at, step-breaks-of, view-of}
 use Rattle.reference.specs.Refusal.{refuse}
-use Rattle.reference.specs.Lists.{in-range}
+use Rattle.reference.specs.Lists.{choose, in-range}
+use Rattle.reference.specs.State as reference
 use Rattle.reference.specs.State.{State, Processor, Line, L1, L9, TL3, U1, H5, Life, new, live, terminated, same-line, same-life, processor-at, mutex-at, life-at}
-use Rattle.reference.specs.Step.{Move, action-of, view}
+use Rattle.reference.specs.Step.{Move, action-of, view, works-on}
 use Rattle.reference.specs.Cause.{operand-fits, is-go, refused-here, cause}
 use Rattle.reference.specs.Break.{is-empty, line-breaks, step-breaks}
 use Rattle.reference.specs.Snapshot.{Entry, thread-entry}
@@ -25,8 +27,12 @@ use Rattle.reference.proofs.Tests.{range-true}
 use Rattle.reference.proofs.Same.{same-line-exact}
 use Rattle.reference.proofs.Legal.{legal}
 use Rattle.association.proofs.Spots.{Spot, AtSpot, entry-for, spot-entry, spot-of}
-use Rattle.association.proofs.Shown.{Fits, queue-of, read-processor, read-mutex, read-entry, read-taken}
+use Rattle.association.proofs.Shown.{Fits, read-processor, read-mutex, read-entry, read-taken}
 use Rattle.shown.proofs.Regular.{Registers, Regular, regular-fits}
+use Rattle.state.specs.Model.{taken}
+use Rattle.state.proofs.Numbers.{queue-mutex, queue-ready}
+use Rattle.association.proofs.Transfers.{number, works-there}
+use Rattle.agreement.proofs.Index.{index-is}
 use Rattle.agreement.proofs.View.{found, seen, by-action}
 
 -- what comes later matters only where this test lets it
@@ -37,6 +43,10 @@ later false n h = h refl
 and-later : (a : Bool) {b c : Bool} → (a ≡ true → b ≡ c) → a && b ≡ a && c
 and-later true h = h refl
 and-later false h = refl
+
+in-queue : (b : Bool) → eqb (choose b 2 1) 0 ≡ false
+in-queue true = refl
+in-queue false = refl
 
 -- ---- the causes
 
@@ -49,8 +59,7 @@ module _ (s : State) (h : Fits s) where
       at-spot x a = ap (λ (e : Entry). eqb (e .status) 0) (spot-entry s (h .placed) k i x a)
 
       not-new : (x : Spot) → AtSpot s k x → life-at s k ≡ live → eqb (entry-for s k x .status) 0 ≡ false
-      not-new Spot.ready a e = refl
-      not-new (Spot.waiting m) a e = refl
+      not-new (Spot.queued q) a e = in-queue (in-range 1 8 q)
       not-new (Spot.current p) a e = refl
       not-new (Spot.transit p) a e = refl
       not-new Spot.new a e = absurd (true≢false (ap (λ (l : Life). same-life l live) (sym e ∙ a)))
@@ -58,7 +67,7 @@ module _ (s : State) (h : Fits s) where
 
       by : (l : Life) → life-at s k ≡ l → eqb (thread-entry s k .status) 0 ≡ same-life l new
       by new e = at-spot Spot.new e
-      by live e = let x = spot-of s (h .placed) k i in at-spot (x .0) (x .1) ∙ not-new (x .0) (x .1) e
+      by live e = let x = spot-of s (h .placed) k i (h .m-most) in at-spot (x .0) (x .1) ∙ not-new (x .0) (x .1) e
       by terminated e = at-spot Spot.terminated e
 
   operands : (o n : ℕ) → n ≤ 6 → operand-right (encode s) n o ≡ operand-fits s (action-of n) o
@@ -85,12 +94,6 @@ module _ (s : State) (h : Fits s) where
           (later (not (operand-fits s (action-of (a .action)) (a .operand))) 3
           (λ f. ap (refuse (leb 4000 (s .applied)) 8) (refusals (a .processor) (a .operand) (a .action) l (not-false _ f))))
 
-  -- ---- 15 at a step
-
-  pub view-shows : (p m : ℕ) → view-of (encode s) p m ≡ seen s p m
-  view-shows p m =
-      λ i. record { number = p; proc = read-processor s h p i; mutex = read-mutex s h m i; queue = read-taken s h m i; ready = read-taken s h 0 i }
-
   pub mutex-shows : (p : ℕ) → processor-of (encode s) p .mutex ≡ processor-at s p .mutex
   mutex-shows p = ap (λ (r : declared.Processor). r .mutex) (read-processor s h p)
 
@@ -98,7 +101,30 @@ nothing-empty : (q : List ℕ) → nothing-there (found q) ≡ is-empty q
 nothing-empty [] = refl
 nothing-empty (x ∷ q) = refl
 
+-- ---- 15 at a step
+
 module _ (s : State) (g : Regular s) where
+  abbrev h : Fits s
+  h = regular-fits s g
+
+  pub view-shows : (p m : ℕ) → In (s .P) p → view-of (encode s) p m ≡ seen s p m
+  unfolding encode
+  view-shows p m rp =
+      let q : index-of (s .stealing) (s .P) p (processor-of (encode s) p) ≡ number s p =
+      ap (index-of (s .stealing) (s .P) p) (read-processor s h p) ∙ index-is s g p rp in
+      let r : taken (encode s .chains) (index-of (s .stealing) (s .P) p (processor-of (encode s) p)) ≡ found (reference.queue-at s (works-on s p)) =
+      ap (taken (encode s .chains)) q ∙ read-taken s h (number s p) ∙ ap found (queue-ready s (works-on s p) (works-there s p h rp)) in
+      λ i.
+      record {
+        number = p;
+        proc = read-processor s h p i;
+        mutex = read-mutex s h m i;
+        queue = read-taken s h m i;
+        ready = r i;
+        index = q i;
+        queues = sym (g .placed .count) i;
+      }
+
   breaks-agree : (p : ℕ) → In (s .P) p → breaks-at (s .T) (seen s p (processor-at s p .mutex)) ≡ line-breaks (s .T) (processor-at s p .position) (view s p (processor-at s p .mutex))
   breaks-agree p i =
       let r : Processor = processor-at s p in
@@ -110,14 +136,14 @@ module _ (s : State) (g : Regular s) where
       (and-later (same-line l L9)
       (λ e.
       let t : Registers (s .P) (s .T) (s .M) L9 r = rw (same-line-exact .only l L9 e) at (g .registers p i) in
-      ap (λ (q : List ℕ). nothing-there (found q)) (queue-of s m (t .mutex-low)) ∙ nothing-empty (mutex-at s m .queue))))
+      ap (λ (q : List ℕ). nothing-there (found q)) (queue-mutex s m (omega (arith, t .mutex-low, t .mutex-most, g .m-range))) ∙ nothing-empty (mutex-at s m .queue))))
 
   pub breaks-show : (a : Move) → cause s a ≡ 0 → step-breaks-of (encode s) (a .processor) (a .action) ≡ step-breaks s a
   unfolding step-breaks-of step-breaks encode
   breaks-show a e =
       let l = legal s a e in
       let f = regular-fits s g in
-      ap (λ (v : code.View). eqb (a .action) 0 && breaks-at (s .T) v) (ap (view-of (encode s) (a .processor)) (mutex-shows s f (a .processor)) ∙ view-shows s f (a .processor) _) ∙
+      ap (λ (v : code.View). eqb (a .action) 0 && breaks-at (s .T) v) (ap (view-of (encode s) (a .processor)) (mutex-shows s f (a .processor)) ∙ view-shows (a .processor) _ (l .processor)) ∙
       ap (λ (b : Bool). eqb (a .action) 0 && b) (breaks-agree (a .processor) (l .processor)) ∙
       ap (λ (b : Bool). b && line-breaks (s .T) (processor-at s (a .processor) .position) (view s (a .processor) (processor-at s (a .processor) .mutex)))
       (by-action (λ n x. eqb n 0 ≡ is-go x) refl refl refl refl refl refl refl (a .action) (l .action))

@@ -2,23 +2,27 @@
 -- Assumes nothing.
 use Prim.Native.Nat.{ℕ, zero, suc, _+_, _*_, _≤_, _<_}
 use mathlib.Core.Bool.{Bool, true, false, _&&_, _||_, not, true≢false}
+use mathlib.Core.List.{[]}
 use mathlib.Core.Path.{_≡_, refl, ap, _∙_}
 use native.Mathlib.Omega.{arith}
 use lib.Dec.{eqb, leb}
+use lib.ListN.{length}
 use borrow.Author.Tests.{leb-false}
-use Rattle.reference.specs.Lists.{at, put, sum, is}
+use Rattle.reference.specs.Lists.{at, put, sum, is, occurrences}
 use Rattle.reference.specs.State.{State, Processor, Mutex, Life, new, live, terminated, Line, App, L1, L9, TL3, U1, H5, row, same-line, same-life, nobody, free-mutex, processor-at, mutex-at, life-at}
-use Rattle.reference.specs.Step.{View, view, Action, go, lock, trylock, unlock, yield, exit, create, act, target, created-by, ended-by, put-back, does, Move, action-of, next}
+use Rattle.reference.specs.Step.{View, view, works-on, Action, go, lock, trylock, unlock, yield, exit, create, act, target, created-by, ended-by, put-back, does, Move, action-of, next}
 use Rattle.reference.specs.Cause.{is-go, operand-fits, cause}
 use Rattle.reference.specs.Break.{is-empty, line-breaks, step-breaks}
 use Rattle.reference.specs.Safe.{In, one-if}
 use Rattle.reference.proofs.Tests.{range-true}
 use Rattle.reference.proofs.Sums.{is-same, is-other, sum-put, sum-put-zero, sum-at, length-put, at-put, choose-by}
 use Rattle.reference.proofs.Legal.{Here, legal}
+use Rattle.reference.proofs.Local.{out, ProbeFits}
 use Rattle.reference.proofs.Invariant.{in-registers}
 use Rattle.state.specs.Allowed.{Allowed}
 use Rattle.association.proofs.Spots.{Placed}
-use Rattle.shown.proofs.Regular.{Registers, Ranges, Regular, regular-allowed, allowed-regular}
+use Rattle.association.proofs.Transfers.{works-there}
+use Rattle.shown.proofs.Regular.{Registers, Ranges, Regular, regular-fits, regular-allowed, allowed-regular}
 use Rattle.agreement.proofs.Lines.{Before, After, act-keeps}
 
 -- ---- tests and weights
@@ -51,6 +55,10 @@ Turns s i j = (k : ℕ) → In (s .T) k → gone (at (put (put (s .lives) i live
 
 -- ---- a view is put back
 
+-- a processor works on a ready queue that is there
+works : (s : State) → Regular s → (p : ℕ) → In (s .P) p → In (length (s .ready)) (works-on s p)
+works s g p r = omega (arith, works-there s p (regular-fits s g) r, g .placed .count)
+
 module _ (s : State) (g : Regular s) (p m : ℕ) (rp : In (s .P) p) (early : s .applied < 4000) (rm : m ≤ s .M) (i j : ℕ) (w : View)
     (d : (k : ℕ) → 1 ≤ k → After (s .P) (s .T) (s .M) (is k) m i j (view s p m) w) (b : Turns s i j) where
   put-regular : Regular (put-back s p m i j w)
@@ -60,23 +68,30 @@ module _ (s : State) (g : Regular s) (p m : ℕ) (rp : In (s .P) p) (early : s .
         p-range = g .p-range;
         t-range = g .t-range;
         m-range = g .m-range;
+        stealing = g .stealing;
         applied = early;
         placed =
             record {
               processors = length-put (s .processors) p (w .proc) ∙ g .placed .processors;
               mutexes = length-put (s .mutexes) m (w .mutex) ∙ g .placed .mutexes;
               lives = length-put (put (s .lives) i live) j terminated ∙ length-put (s .lives) i live ∙ g .placed .lives;
+              count = length-put (s .ready) (works-on s p) (w .ready) ∙ g .placed .count;
               one-place = λ k r.
                   omega (
                     arith,
                     g .placed .one-place k r,
                     b k r,
                     d k (r .0) .census,
+                    sum-put (occurrences k) (s .ready) (works-on s p) (w .ready) [] (works s g p rp),
                     sum-put (in-registers k) (s .processors) p (w .proc) nobody (omega (arith, g .placed .processors)),
                     sum-put-zero (λ (x : Mutex). sum (is k) (x .queue)) (s .mutexes) m (w .mutex) free-mutex (omega (arith, g .placed .mutexes)) (λ z. d k (r .0) .idle z .0),
                   );
             };
-        ready = d1 .ready;
+        probe = λ q r.
+            rw (length-put (s .ready) (works-on s p) (w .ready))
+            (at-put (λ (q : ℕ) (c : Processor). ProbeFits (length (s .ready)) (c .position) (c .probe)) (s .processors) p q (w .proc) nobody (omega (arith, g .placed .processors))
+            (λ z. d1 .probe) (λ n. g .probe q r));
+        ready = omega (arith, g .ready, d1 .ready, sum-put (sum (out (s .T))) (s .ready) (works-on s p) (w .ready) [] (works s g p rp));
         registers = λ q r.
             at-put (λ (q : ℕ) (c : Processor). Registers (s .P) (s .T) (s .M) (c .position) c) (s .processors) p q (w .proc) nobody (omega (arith, g .placed .processors))
             (λ z. d1 .registers) (λ n. g .registers q r);
@@ -104,7 +119,8 @@ module _ (s : State) (g : Regular s) (p : ℕ) (rp : In (s .P) p) where
         here = e;
         registers = t;
         mutex = mutex-ranges m rm;
-        ready = g .ready;
+        ready = omega (arith, g .ready, sum-at (sum (out (s .T))) (s .ready) (works-on s p) [] (works s g p rp));
+        probe = rw e at (g .probe p rp);
         self-low = rp .0;
         self-high = rp .1;
         count-room = room (same-line l L1 || same-line l TL3) (mutex-at s m .count) (s .T + 1) a (mutex-ranges m rm .count);

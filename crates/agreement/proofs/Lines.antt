@@ -1,16 +1,17 @@
 -- What one line, or one call, makes of a view keeps the register table and the ranges, and each thread is counted as often as before.
 -- Assumes nothing.
-use Prim.Native.Nat.{ℕ, _+_, _-_, _≤_}
+use Prim.Native.Nat.{ℕ, suc, _+_, _-_, _≤_}
 use mathlib.Core.Bool.{_||_}
 use mathlib.Core.List.{List, [], _∷_, _++_}
 use mathlib.Core.Path.{_≡_, ap, sym, subst}
 use native.Mathlib.Omega.{arith}
+use native.Mathlib.Nat.{mod-lt}
 use Rattle.reference.specs.Lists.{sum}
 use Rattle.reference.specs.State.{Mutex, Line, App, CI2, CI3, L1, L3, L4, L6, L7, L8, L9, L10, TL1, GT1, GT3, TL3, U1, H2, H3, H5, H6, H8, Y1, Y2, Y3, C2, row, same-line, same-token}
 use Rattle.reference.specs.Step.{View, line, own-token, Action, go, lock, trylock, unlock, yield, exit, create, act, target, created-by, ended-by}
 use Rattle.reference.specs.Safe.{In, one-if}
 use Rattle.reference.proofs.Sums.{some, some-pos, sum-snoc, choose-by, if-zero-by, if-empty-by}
-use Rattle.reference.proofs.Local.{out, out-in, in-out, from, Allowed}
+use Rattle.reference.proofs.Local.{out, out-in, in-out, from, Allowed, ProbeFits}
 use Rattle.shown.proofs.Regular.{Registers, Ranges}
 
 -- the first of a queue is taken
@@ -49,6 +50,7 @@ module _ (P T M : ℕ) (f : ℕ → ℕ) where
     pub registers : Registers P T M l (v .proc)
     pub mutex : Ranges P T (v .mutex)
     pub ready : sum (out T) (v .ready) ≡ 0
+    pub probe : ProbeFits (v .queues) l (v .proc .probe)
     pub self-low : 1 ≤ v .self
     pub self-high : v .self ≤ P
     pub count-room : v .mutex .count + one-if (same-line l L1 || same-line l TL3) ≤ T + 1
@@ -62,6 +64,7 @@ module _ (P T M : ℕ) (f : ℕ → ℕ) where
     pub registers : Registers P T M n (v′ .proc)
     pub mutex : Ranges P T (v′ .mutex)
     pub ready : sum (out T) (v′ .ready) ≡ 0
+    pub probe : ProbeFits (v .queues) n (v′ .proc .probe)
     pub census : sum f (v .ready) + sum f (v .mutex .queue) + f (v .proc .current) + f (v .proc .transit) + f i ≡
         sum f (v′ .ready) + sum f (v′ .mutex .queue) + f (v′ .proc .current) + f (v′ .proc .transit) + f j
     pub idle : m ≡ 0 → (sum f (v′ .mutex .queue) ≡ sum f (v .mutex .queue)) × Same (v′ .mutex) (v .mutex)
@@ -75,7 +78,8 @@ module _ (P T M : ℕ) (f : ℕ → ℕ) where
   line-keeps : (l : Line) (v : View) → Before l v → Goes v (line l v)
   unfolding line
   line-keeps App v h = subst (λ (n : Line). After′ n (v .proc .mutex) 0 0 v v) (sym (h .here)) (omega arith)
-  line-keeps CI2 v h = if-empty-by (Goes v) (v .ready) (λ e. omega arith) (λ x xs e. omega (arith, taken T f e (h .ready)))
+  line-keeps CI2 v h =
+      if-empty-by (Goes v) (v .ready) (λ e. omega (arith, mod-lt (suc (v .proc .probe)) {m = v .queues} (omega arith))) (λ x xs e. omega (arith, taken T f e (h .ready)))
   line-keeps CI3 v h = omega arith
   line-keeps L1 v h = if-zero-by (Goes v) (v .mutex .count) (λ e. omega arith) (λ c e. omega arith)
   line-keeps L3 v h = omega arith

@@ -114,7 +114,7 @@ module _ (s : reference.State) (h : Allowed s) (a : Move) where
       let l = legal s a e in
       let w = move-moves s a e b g in
       ap (λ (k : ℕ). put-effect (encode s) p k (act-effect n o (view-of (encode s) p k))) (target-shows (l .action)) ∙
-      ap (λ (v : code.View). put-effect (encode s) p m (act-effect n o v)) (view-shows s (regular-fits s g) p m) ∙
+      ap (λ (v : code.View). put-effect (encode s) p m (act-effect n o v)) (view-shows s g p m (l .processor)) ∙
       effect-shows s p m (created-by x o) (ended-by x (processor-at s p .current)) (act x o (view s p m))
       (record { before = regular-fits s g; after = next-regular s a e b g .placed; processor = l .processor; mutex = w .mutex })
       (act-effect n o (seen s p m)) (act-agrees s g p (l .processor) o n (l .action) (l .here .call, l .operand)) (λ z. w .after 1 (omega arith) .idle z .1) (l .room)

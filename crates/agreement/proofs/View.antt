@@ -7,7 +7,7 @@ use mathlib.Core.Path.{_≡_, refl, ap, sym}
 use native.Mathlib.Numerals.{add-one}
 use native.Mathlib.Omega.{arith}
 use lib.Dec.{eqb}
-use lib.ListN.{getD}
+use lib.ListN.{length, getD}
 use borrow.Author.Tests.{lt-ltb, ne-eqb}
 use Rattle.state.specs.declared.Mutex.{Mutex}
 use Rattle.state.specs.declared.queues.Taken.{Taken}
@@ -22,15 +22,16 @@ use Rattle.step.specs.Model.{up-to, on-taken, effects, stay, at-CI2, at-CI3, at
 use Rattle.reference.specs.Lists.{choose, if-zero, if-empty}
 use Rattle.reference.specs.State as reference
 use Rattle.reference.specs.State.{Line, App, CI2, CI3, L1, L3, L4, L6, L7, L8, L9, L10, TL1, GT1, GT3, TL3, U1, H2, H3, H5, H6, H8, Y1, Y2, Y3, C2, row, same-token, processor-at, mutex-at}
-use Rattle.reference.specs.Step.{View, view, line, own-token, put-back, act, Action, go, lock, trylock, unlock, yield, exit, create, action-of, target, created-by, ended-by}
+use Rattle.reference.specs.Step.{View, view, works-on, line, own-token, put-back, act, Action, go, lock, trylock, unlock, yield, exit, create, action-of, target, created-by, ended-by}
 use Rattle.reference.specs.Cause.{is-go, operand-fits}
 use Rattle.reference.specs.Snapshot.{first}
 use Rattle.reference.specs.Safe.{In}
 use Rattle.reference.proofs.Tests.{range-true}
-use Rattle.association.proofs.Shown.{queue-of}
+use Rattle.state.proofs.Numbers.{queue-mutex}
 use Rattle.association.proofs.Transfers as transfers
-use Rattle.association.proofs.Transfers.{Frame}
+use Rattle.association.proofs.Transfers.{Frame, number}
 use Rattle.shown.proofs.Regular.{Regular, Registers}
+use Rattle.agreement.proofs.Index.{next-is}
 
 -- what taking from a queue finds
 abbrev pub found : List ℕ → Taken
@@ -39,7 +40,15 @@ found q = if-empty q Nothing (λ k rest. answer.Thread k (first rest))
 -- what the code sees of the record of s
 abbrev pub seen : reference.State → ℕ → ℕ → code.View
 seen s p m =
-    record { number = p; proc = processor-record (processor-at s p); mutex = mutex-record (mutex-at s m); queue = found (queue-at s m); ready = found (s .ready) }
+    record {
+      number = p;
+      proc = processor-record (processor-at s p);
+      mutex = mutex-record (mutex-at s m);
+      queue = found (queue-at s m);
+      ready = found (reference.queue-at s (works-on s p));
+      index = number s p;
+      queues = length (s .ready);
+    }
 
 -- the effect is what the view w that is put back has, and the chains go with it
 pub record Agree (s : reference.State) (p m i j : ℕ) (e : Effect) (w : View) : Type 0 where
@@ -68,7 +77,7 @@ up-one most n h = rw (lt-ltb n most h) (add-one n)
 
 module _ (s : reference.State) (g : Regular s) (p : ℕ) where
   -- no thread moves
-  stays : (m : ℕ) {e : Effect} {w : View} → e .proc ≡ processor-record (w .proc) → e .mutex ≡ mutex-record (w .mutex) → e .transfer ≡ Stay → w .ready ≡ s .ready →
+  stays : (m : ℕ) {e : Effect} {w : View} → e .proc ≡ processor-record (w .proc) → e .mutex ≡ mutex-record (w .mutex) → e .transfer ≡ Stay → w .ready ≡ reference.queue-at s (works-on s p) →
       w .mutex .queue ≡ mutex-at s m .queue → w .proc .current ≡ processor-at s p .current → w .proc .transit ≡ processor-at s p .transit → Agree s p m 0 0 e w
   stays m {e} {w} a b d h q c t = record { proc = a; mutex = b; chains = λ f. rw d (sym (transfers.stay s p m w f h q c t)) }
 
@@ -89,60 +98,65 @@ module _ (s : reference.State) (g : Regular s) (p : ℕ) where
   abbrev x : reference.Mutex
   x = mutex-at s m
 
+  -- the ready queue that it works on
+  abbrev ready : List ℕ
+  ready = reference.queue-at s (works-on s p)
+
   abbrev counts : ℕ → ℕ → Mutex
   counts k n = record { count = n; owner = k; token = token-record (x .token) }
 
   module _ (l : Line) (h : Registers (s .P) (s .T) (s .M) l (processor-at s p)) (o : row l .mutex ≡ 1) where
     its-queue : queue-at s m ≡ x .queue
-    its-queue = queue-of s m (omega arith)
+    its-queue = queue-mutex s m (omega (arith, g .m-range))
 
     count-up : up-to 255 (x .count) ≡ suc (x .count)
     count-up = up-one 255 (x .count) (omega (arith, g .t-range, g .mutex m (omega arith)))
 
-  pub line-agrees : (l : Line) → Registers (s .P) (s .T) (s .M) l (processor-at s p) → R (getD effects (row l .number) stay c) (line l v)
+  pub line-agrees : processor-at s p .probe < length (s .ready) → (l : Line) → Registers (s .P) (s .T) (s .M) l (processor-at s p) → R (getD effects (row l .number) stay c) (line l v)
   unfolding line at-CI2 at-CI3 at-L1 at-L3 at-L4 at-L6 at-L7 at-L8 at-L9 at-L10 at-TL1 at-GT1 at-GT3 at-TL3 at-U1 at-H2 at-H3 at-H5 at-H6 at-H8 at-Y1 at-Y2 at-Y3 at-C2
-  line-agrees App h = stays m refl refl refl refl refl refl refl
-  line-agrees CI2 h =
-      by-queue R (s .ready) (s .ready) refl _ (stays m refl refl refl refl refl refl refl)
+  line-agrees k App h = stays m refl refl refl refl refl refl refl
+  line-agrees k CI2 h =
+      by-queue R ready ready refl _
+      (stays m (ap (λ (n : ℕ). model.away 1 (model.probing n (c .proc))) (next-is (length (s .ready)) (processor-at s p .probe) k)) refl refl refl refl refl refl)
       (λ k rest e. record { proc = refl; mutex = refl; chains = λ f. sym (transfers.take-ready s p m _ f k refl rest e refl refl (omega arith) refl) })
-  line-agrees CI3 h = record { proc = refl; mutex = refl; chains = λ f. sym (transfers.load s p m _ f _ (omega arith) refl refl (omega arith) refl refl) }
-  line-agrees L1 h =
+  line-agrees k CI3 h = record { proc = refl; mutex = refl; chains = λ f. sym (transfers.load s p m _ f _ (omega arith) refl refl (omega arith) refl refl) }
+  line-agrees k L1 h =
       by-zero R (x .count)
       (λ e. stays m refl (ap (counts (processor-at s p .current)) (count-up L1 h refl)) refl refl refl refl refl)
       (λ e. stays m refl (ap (counts (x .owner)) (count-up L1 h refl)) refl refl refl refl refl)
-  line-agrees L3 h = record { proc = refl; mutex = refl; chains = λ f. sym (transfers.unload s p m _ f _ (omega arith) refl refl refl (omega arith) refl) }
-  line-agrees L4 h =
+  line-agrees k L3 h = record { proc = refl; mutex = refl; chains = λ f. sym (transfers.unload s p m _ f _ (omega arith) refl refl refl (omega arith) refl) }
+  line-agrees k L4 h =
       record { proc = refl; mutex = refl; chains = λ f. sym (transfers.join-queue s p m _ f _ refl (omega arith) refl (omega arith) refl refl) }
-  line-agrees L6 h = by-zero R (x .token .processor) (λ e. stays m refl refl refl refl refl refl refl) (λ e. stays m refl refl refl refl refl refl refl)
-  line-agrees L7 h =
+  line-agrees k L6 h = by-zero R (x .token .processor) (λ e. stays m refl refl refl refl refl refl refl) (λ e. stays m refl refl refl refl refl refl refl)
+  line-agrees k L7 h =
       by-queue R (x .queue) (queue-at s m) (its-queue L7 h refl) _ (stays m refl refl refl refl refl refl refl) (λ k rest e. stays m refl refl refl refl refl refl refl)
-  line-agrees L8 h =
+  line-agrees k L8 h =
       by-test R (same-token (x .token) (processor-at s p .observed)) (stays m refl refl refl refl refl refl refl) (stays m refl refl refl refl refl refl refl)
-  line-agrees L9 h =
+  line-agrees k L9 h =
       by-queue R (x .queue) (queue-at s m) (its-queue L9 h refl) _ (stays m refl refl refl refl refl refl refl)
       (λ k rest e. record { proc = refl; mutex = refl; chains = λ f. sym (transfers.take-queue s p m _ f k refl rest (omega arith) e refl refl (omega arith) refl) })
-  line-agrees L10 h = record { proc = refl; mutex = refl; chains = λ f. sym (transfers.load s p m _ f _ (omega arith) refl refl (omega arith) refl refl) }
-  line-agrees TL1 h = by-zero R (x .count) (λ e. stays m refl refl refl refl refl refl refl) (λ e. stays m refl refl refl refl refl refl refl)
-  line-agrees GT1 h = by-zero R (x .token .processor) (λ e. stays m refl refl refl refl refl refl refl) (λ e. stays m refl refl refl refl refl refl refl)
-  line-agrees GT3 h =
+  line-agrees k L10 h = record { proc = refl; mutex = refl; chains = λ f. sym (transfers.load s p m _ f _ (omega arith) refl refl (omega arith) refl refl) }
+  line-agrees k TL1 h = by-zero R (x .count) (λ e. stays m refl refl refl refl refl refl refl) (λ e. stays m refl refl refl refl refl refl refl)
+  line-agrees k GT1 h = by-zero R (x .token .processor) (λ e. stays m refl refl refl refl refl refl refl) (λ e. stays m refl refl refl refl refl refl refl)
+  line-agrees k GT3 h =
       by-test R (same-token (x .token) (processor-at s p .observed)) (stays m refl refl refl refl refl refl refl) (stays m refl refl refl refl refl refl refl)
-  line-agrees TL3 h = stays m refl (ap (counts (x .owner)) (count-up TL3 h refl)) refl refl refl refl refl
-  line-agrees U1 h = by-zero R (x .count - 1) (λ e. stays m refl refl refl refl refl refl refl) (λ e. stays m refl refl refl refl refl refl refl)
-  line-agrees H2 h =
+  line-agrees k TL3 h = stays m refl (ap (counts (x .owner)) (count-up TL3 h refl)) refl refl refl refl refl
+  line-agrees k U1 h = by-zero R (x .count - 1) (λ e. stays m refl refl refl refl refl refl refl) (λ e. stays m refl refl refl refl refl refl refl)
+  line-agrees k H2 h =
       by-queue R (x .queue) (queue-at s m) (its-queue H2 h refl) _ (stays m refl refl refl refl refl refl refl)
       (λ k rest e. record { proc = refl; mutex = refl; chains = λ f. sym (transfers.take-queue s p m _ f k refl rest (omega arith) e refl refl (omega arith) refl) })
-  line-agrees H3 h = record { proc = refl; mutex = refl; chains = λ f. sym (transfers.join-ready s p m _ f _ refl (omega arith) refl refl refl) }
-  line-agrees H5 h =
+  line-agrees k H3 h = record { proc = refl; mutex = refl; chains = λ f. sym (transfers.join-ready s p m _ f _ refl (omega arith) refl refl refl) }
+  line-agrees k H5 h =
       let u : up-to 65535 (processor-at s p .sequence) ≡ suc (processor-at s p .sequence) = up-one 65535 (processor-at s p .sequence) (omega arith) in
       stays m (λ i. model.on-mutex 19 (model.sequenced (u i) (c .proc))) (λ i. model.tokened (model.token p (u i)) (c .mutex)) refl refl refl refl refl
-  line-agrees H6 h =
+  line-agrees k H6 h =
       by-queue R (x .queue) (queue-at s m) (its-queue H6 h refl) _ (stays m refl refl refl refl refl refl refl) (λ k rest e. stays m refl refl refl refl refl refl refl)
-  line-agrees H8 h = by-test R (same-token (x .token) (own-token v)) (stays m refl refl refl refl refl refl refl) (stays m refl refl refl refl refl refl refl)
-  line-agrees Y1 h =
-      by-queue R (s .ready) (s .ready) refl _ (stays m refl refl refl refl refl refl refl) (λ k rest e. stays m refl refl refl refl refl refl refl)
-  line-agrees Y2 h = record { proc = refl; mutex = refl; chains = λ f. sym (transfers.unload s p m _ f _ (omega arith) refl refl refl (omega arith) refl) }
-  line-agrees Y3 h = record { proc = refl; mutex = refl; chains = λ f. sym (transfers.join-ready s p m _ f _ refl (omega arith) refl refl refl) }
-  line-agrees C2 h = record { proc = refl; mutex = refl; chains = λ f. sym (transfers.join-ready s p m _ f _ refl (omega arith) refl refl refl) }
+  line-agrees k H8 h = by-test R (same-token (x .token) (own-token v)) (stays m refl refl refl refl refl refl refl) (stays m refl refl refl refl refl refl refl)
+  line-agrees k Y1 h =
+      by-queue R ready ready refl _ (stays m refl refl refl refl refl refl refl) (λ k rest e. stays m refl refl refl refl refl refl refl)
+  line-agrees k Y2 h = record { proc = refl; mutex = refl; chains = λ f. sym (transfers.unload s p m _ f _ (omega arith) refl refl refl (omega arith) refl) }
+  line-agrees k Y3 h = record { proc = refl; mutex = refl; chains = λ f. sym (transfers.join-ready s p m _ f _ refl (omega arith) refl refl refl) }
+  line-agrees k C2 h = record { proc = refl; mutex = refl; chains = λ f. sym (transfers.join-ready s p m _ f _ refl (omega arith) refl refl refl) }
 
 -- ---- the calls
 
@@ -176,7 +190,7 @@ module _ (s : reference.State) (g : Regular s) (p : ℕ) (rp : In (s .P) p) (o :
   act-agrees =
       by-action
       (λ n a. Fit a → Agree s p (target a (r .mutex) o) (created-by a o) (ended-by a (r .current)) (act-effect n o (seen s p (target a (r .mutex) o))) (act a o (view s p (target a (r .mutex) o))))
-      (λ f. line-agrees s g p (r .position) (g .registers p rp))
+      (λ f. line-agrees s g p (g .probe p rp .most) (r .position) (g .registers p rp))
       (λ f. stays s g p o refl refl refl refl refl refl refl)
       (λ f. stays s g p o refl refl refl refl refl refl refl)
       (λ f. stays s g p o refl refl refl refl refl refl refl)

@@ -4,7 +4,6 @@ use Prim.Native.Nat.{ℕ, zero, suc, _≤_}
 use mathlib.Core.List.{List, [], _∷_, _++_}
 use mathlib.Core.Logic.{_≢_}
 use mathlib.Core.Path.{_≡_, refl, ap, sym, subst, _∙_}
-use native.Mathlib.Nat.{not-suc-le-zero}
 use native.Mathlib.Omega.{arith}
 use native.Mathlib.Decide.{ℕ-discrete, decLe}
 use lib.ListN.{set}
@@ -17,12 +16,12 @@ use Rattle.reference.specs.Snapshot.{entry, behind, first}
 use Rattle.state.specs.declared.Thread.{Thread}
 use Rattle.state.specs.declared.Chains.{Chains}
 use Rattle.state.specs.Record.{zero-thread, thread-in, first-of}
-use Rattle.state.specs.Association.{encode, thread-record, thread-row, queue-at}
+use Rattle.state.specs.Association.{encode, thread-record, thread-row, queue-at, queued-as}
 use Rattle.state.specs.Model.{queued-in, last-from, removed, joined, placed}
 use Rattle.state.proofs.Model.{last-stop, last-on, joined-none, joined-some}
 use Rattle.association.proofs.Tables.{tabulate-ext, tabulate-set, tabulate-two}
-use Rattle.association.proofs.Spots.{Spot, ready, waiting, current, transit, new, terminated, AtSpot, entry-for, Placed, spot-of, spot-entry}
-use Rattle.association.proofs.Shown.{Fits, row-some, row-none, queued-as, queue-spot, at-queue, queue-entry, placed-once, queue-thread, queue-next, queue-walk, first-none, first-some}
+use Rattle.association.proofs.Spots.{Spot, queued, current, transit, new, terminated, AtSpot, entry-for, Placed, spot-of, spot-entry}
+use Rattle.association.proofs.Shown.{Fits, row-some, row-none, placed-once, queue-thread, queue-next, queue-walk, first-none, first-some}
 use Rattle.association.proofs.Queues.{occurs-here, occurs-append, behind-skip, behind-at, behind-none, behind-snoc, behind-last, last, all-before, last-split, last-stands}
 
 -- every thread but k is in e where it is in s
@@ -30,6 +29,7 @@ pub record Others (s e : reference.State) (k : ℕ) : Type 0 where
   pub P : e .P ≡ s .P
   pub T : e .T ≡ s .T
   pub M : e .M ≡ s .M
+  pub stealing : e .stealing ≡ s .stealing
   pub queues : (q j : ℕ) → j ≢ k → occurrences j (queue-at s q) ≤ occurrences j (queue-at e q)
   pub current : (p j : ℕ) → 1 ≤ j → j ≢ k → processor-at s p .current ≡ j → processor-at e p .current ≡ j
   pub transit : (p j : ℕ) → 1 ≤ j → j ≢ k → processor-at s p .transit ≡ j → processor-at e p .transit ≡ j
@@ -37,18 +37,14 @@ pub record Others (s e : reference.State) (k : ℕ) : Type 0 where
 
 module _ (s e : reference.State) (h : Fits s) (g : Placed e) (k : ℕ) (o : Others s e k) where
   stays : (j : ℕ) → 1 ≤ j → j ≢ k → (x : Spot) → AtSpot s j x → AtSpot e j x
-  stays j l n ready a = omega (arith, o .queues 0 j n)
-  stays j l n (waiting zero) a = absurd (not-suc-le-zero (a .0 .0))
-  stays j l n (waiting (suc m)) a = (omega (arith, o .M), omega (arith, o .queues (suc m) j n))
+  stays j l n (queued q) a = omega (arith, o .queues q j n)
   stays j l n (current p) a = (omega (arith, o .P), o .current p j l n (a .1))
   stays j l n (transit p) a = (omega (arith, o .P), o .transit p j l n (a .1))
   stays j l n new a = o .life j l n ∙ a
   stays j l n terminated a = o .life j l n ∙ a
 
   same-entry : (j : ℕ) → ((q : ℕ) → behind j (queue-at e q) ≡ behind j (queue-at s q)) → (x : Spot) → entry-for e j x ≡ entry-for s j x
-  same-entry j b ready = ap (entry 1 0) (b 0)
-  same-entry j b (waiting zero) = refl
-  same-entry j b (waiting (suc m)) = ap (entry 2 (suc m)) (b (suc m))
+  same-entry j b (queued q) = ap (entry (queued-as q 0 .status) (queued-as q 0 .holder)) (b q)
   same-entry j b (current p) = refl
   same-entry j b (transit p) = refl
   same-entry j b new = refl
@@ -63,7 +59,7 @@ module _ (s e : reference.State) (h : Fits s) (g : Placed e) (k : ℕ) (o : Othe
             elim (decLe j (s .T)) [
               | no t ↦ row-none e j (λ r. omega (arith, o .T)) ∙ sym (row-none s j (λ r. omega arith))
               | yes t ↦
-                  let w = spot-of s (h .placed) j (l, t) in
+                  let w = spot-of s (h .placed) j (l, t) (h .m-most) in
                   row-some e j (omega (arith, o .T)) ∙
                   ap thread-record (spot-entry e g j (omega (arith, o .T)) (w .0) (stays j l n (w .0) (w .1)) ∙ same-entry j b (w .0) ∙ sym (spot-entry s (h .placed) j (l, t) (w .0) (w .1))) ∙
                   sym (row-some s j (l, t))
@@ -83,14 +79,14 @@ module _ (s e : reference.State) (h : Fits s) (g : Placed e) (k : ℕ) (o : Othe
       tabulate-set (thread-row s) (thread-row e) 33 k (omega (arith, h .t-most)) (λ j l n. row-stays j n (λ q. b q j n)) ∙
       ap (set (tabulate (thread-row s) 0 33) k) (row-now k r x a)
 
-pub firsts-set : (s e : reference.State) → Fits s → (q : ℕ) → q ≤ s .M → ((n : ℕ) → n ≢ q → queue-at e n ≡ queue-at s n) →
+pub firsts-set : (s e : reference.State) → (q : ℕ) → q ≤ 16 → ((n : ℕ) → n ≢ q → queue-at e n ≡ queue-at s n) →
     encode e .chains .firsts ≡ set (encode s .chains .firsts) q (first (queue-at e q))
 unfolding encode
-firsts-set s e h q l f = tabulate-set (λ q. first (queue-at s q)) (λ q. first (queue-at e q)) 9 q (omega (arith, h .m-most)) (λ j x n. ap first (f j n))
+firsts-set s e q l f = tabulate-set (λ q. first (queue-at s q)) (λ q. first (queue-at e q)) 17 q (omega arith) (λ j x n. ap first (f j n))
 
 pub firsts-same : (s e : reference.State) → ((q : ℕ) → first (queue-at e q) ≡ first (queue-at s q)) → encode e .chains .firsts ≡ encode s .chains .firsts
 unfolding encode
-firsts-same s e f = tabulate-ext (λ q. first (queue-at e q)) (λ q. first (queue-at s q)) 0 9 (λ j x y. f j)
+firsts-same s e f = tabulate-ext (λ q. first (queue-at e q)) (λ q. first (queue-at s q)) 0 17 (λ j x y. f j)
 
 pub threads-same : (s e : reference.State) → Fits s → Placed e → Others s e 0 → ((q : ℕ) → queue-at e q ≡ queue-at s q) → encode e .chains .threads ≡ encode s .chains .threads
 unfolding encode
@@ -118,7 +114,7 @@ module _ (s e : reference.State) (h : Fits s) (g : Placed e) where
   one-moves k r o f x a =
       chains-by (encode e .chains) (firsts-same s e (λ q. ap first (f q))) (threads-set s e h g k o r (λ q j n. ap (behind j) (f q)) x a)
 
-  module _ (q : ℕ) (l : q ≤ s .M) (others : (n : ℕ) → n ≢ q → queue-at e n ≡ queue-at s n) where
+  module _ (q : ℕ) (l : q ≤ 16) (others : (n : ℕ) → n ≢ q → queue-at e n ≡ queue-at s n) where
     -- what holds of queue q and its change holds of every queue and its change
     at-queues : (Q : List ℕ → List ℕ → Type 0) → Q (queue-at e q) (queue-at s q) → ((a : List ℕ) → Q a a) → (n : ℕ) → Q (queue-at e n) (queue-at s n)
     at-queues Q c d n = elim (ℕ-discrete n q) [ yes i ↦ subst (λ (n : ℕ). Q (queue-at e n) (queue-at s n)) (sym i) c | no i ↦ rw (others n i) (d (queue-at s n)) ]
@@ -127,7 +123,7 @@ module _ (s e : reference.State) (h : Fits s) (g : Placed e) where
         encode e .chains ≡ removed (encode s .chains) q k (first rest) (thread-record (entry-for e k x))
     unfolding removed
     one-leaves k rest was now o x a =
-        chains-by (encode e .chains) (firsts-set s e h q l others ∙ ap (λ (a : List ℕ). set (encode s .chains .firsts) q (first a)) now)
+        chains-by (encode e .chains) (firsts-set s e q l others ∙ ap (λ (a : List ℕ). set (encode s .chains .firsts) q (first a)) now)
         (threads-set s e h g k o (queue-thread s h q k (rw was (occurs-here k [] rest)))
         (λ n j d. at-queues (λ (a b : List ℕ). behind j a ≡ behind j b) (ap (behind j) now ∙ sym (behind-skip j k rest d) ∙ sym (ap (behind j) was)) (λ b. refl) n) x a)
 
@@ -135,7 +131,7 @@ module _ (s e : reference.State) (h : Fits s) (g : Placed e) where
       -- the row of a thread of the queue
       queue-row-now : (j : ℕ) → In (s .T) j → 1 ≤ occurrences j (queue-at s q ++ k ∷ []) → thread-row e j ≡ queued-as q (behind j (queue-at s q ++ k ∷ []))
       queue-row-now j t c =
-          row-now s e h g k o j t (queue-spot q) (at-queue e q j (omega (arith, o .M)) (rw now c)) ∙ queue-entry e q j ∙
+          row-now s e h g k o j t (queued q) (rw now c) ∙
           ap (λ (a : List ℕ). queued-as q (behind j a)) now
 
       -- k is the last
@@ -149,7 +145,7 @@ module _ (s e : reference.State) (h : Fits s) (g : Placed e) where
       unfolding encode
       joins-empty was =
           let w : queue-at e q ≡ k ∷ [] = now ∙ ap (λ (a : List ℕ). a ++ k ∷ []) was in
-          chains-by (encode e .chains) (firsts-set s e h q l others ∙ ap (λ (a : List ℕ). set (encode s .chains .firsts) q (first a)) w)
+          chains-by (encode e .chains) (firsts-set s e q l others ∙ ap (λ (a : List ℕ). set (encode s .chains .firsts) q (first a)) w)
           (tabulate-set (thread-row s) (thread-row e) 33 k (omega (arith, h .t-most))
           (λ j x d. row-stays s e h g k o j d (at-queues (λ (a b : List ℕ). behind j a ≡ behind j b) (ap (behind j) w ∙ behind-none j k ∙ sym (ap (behind j) was)) (λ b. refl))) ∙
           ap (set (tabulate (thread-row s) 0 33) k) joined-row)

@@ -1,29 +1,32 @@
 -- What a move makes of the record of a state, by the transfer that its view shows: at most one thread goes from a place to another.
 -- Assumes nothing.
-use Prim.Native.Nat.{ℕ, zero, suc, _+_, _≤_}
+use Prim.Native.Nat.{ℕ, zero, suc, _+_, _-_, _*_, _≤_}
 use mathlib.Core.List.{List, [], _∷_, _++_}
 use mathlib.Core.Logic.{_≢_}
 use mathlib.Core.Path.{_≡_, refl, ap, sym, subst, _∙_}
 use native.Mathlib.Numerals.{add-one}
 use native.Mathlib.Omega.{arith}
-use native.Mathlib.Decide.{ℕ-discrete}
-use lib.ListN.{set}
+use native.Mathlib.Decide.{ℕ-discrete, decLe}
+use lib.ListN.{length, set}
 use Rattle.reference.specs.Lists.{put, occurrences, tabulate}
 use Rattle.reference.specs.State as reference
-use Rattle.reference.specs.State.{nobody, free-mutex, live, processor-at, mutex-at}
-use Rattle.reference.specs.Step.{View, put-back}
+use Rattle.reference.specs.State.{nobody, free-mutex, live, probes, processor-at, mutex-at}
+use Rattle.reference.specs.Step.{View, works-on, put-back}
 use Rattle.reference.specs.Safe.{In}
 use Rattle.reference.specs.Snapshot.{first}
-use Rattle.reference.proofs.Sums.{at-put-same, at-put-other}
+use Rattle.reference.proofs.Sums.{around-in, at-put-same, at-put-other}
+use Rattle.reference.proofs.Invariant.{some-queue}
 use Rattle.state.specs.declared.Thread.{Thread}
 use Rattle.state.specs.declared.Chains.{Chains}
 use Rattle.state.specs.Record.{zero-mutex}
 use Rattle.state.specs.Model.{removed, joined, placed, with-applied, with-processor, with-mutex, with-chains}
-use Rattle.state.specs.Association.{encode, processor-record, mutex-record, thread-record, queue-at}
+use Rattle.state.specs.Association.{encode, processor-record, mutex-record, thread-record, queue-at, ready-index}
+use Rattle.state.proofs.Branch.{if-none, if-some}
+use Rattle.state.proofs.Numbers as numbers
 use Rattle.association.proofs.Tables.{tabulate-ext, tabulate-set}
 use Rattle.association.proofs.Queues.{occurs-skip, occurs-snoc}
 use Rattle.association.proofs.Spots.{Spot, current, transit, terminated, AtSpot, entry-for, Placed}
-use Rattle.association.proofs.Shown.{Fits, queue-of}
+use Rattle.association.proofs.Shown.{Fits}
 use Rattle.association.proofs.Changes.{Others, none-moves, one-moves, one-leaves, one-joins}
 
 -- a view is put back of processor p and mutex m (0 for none), and each thread has one place before and after
@@ -32,6 +35,23 @@ pub record Frame (s : reference.State) (p m i j : ℕ) (v : View) : Type 0 where
   pub after : Placed (put-back s p m i j v)
   pub processor : In (s .P) p
   pub mutex : m ≤ s .M
+
+-- the record's number of the ready queue that processor p works on
+abbrev pub number : reference.State → ℕ → ℕ
+number s p = ready-index (s .stealing) (works-on s p)
+
+pub works-there : (s : reference.State) (p : ℕ) → Fits s → In (s .P) p → In (reference.queues (s .stealing) (s .P)) (works-on s p)
+works-there s p h r =
+    let n = some-queue (s .stealing) (s .P) p r in
+    let l = around-in (length (s .ready)) (p + probes (processor-at s p .position) * processor-at s p .probe) (omega (arith, h .placed .count)) in
+    omega (arith, h .placed .count)
+
+most : (stealing P i : ℕ) → In (reference.queues stealing P) i → P ≤ 8 → ready-index stealing i ≤ 16
+most zero P i r l = omega arith
+most (suc c) P i r l = omega arith
+
+pub number-most : (s : reference.State) (p : ℕ) → Fits s → In (s .P) p → number s p ≤ 16
+number-most s p h r = most (s .stealing) (s .P) (works-on s p) (works-there s p h r) (h .p-most)
 
 -- what a register held, if not 0 and not k, it still holds
 abbrev pub Holds : ℕ → ℕ → ℕ → Type 0
@@ -64,26 +84,69 @@ module _ (s : reference.State) (p m i j : ℕ) (v : View) (f : Frame s p m i j v
 
   -- ---- the queues
 
+  in-eight : 1 ≤ m → In 8 m
+  in-eight l = omega (arith, f .mutex, f .before .m-most)
+
   queue-mutex : 1 ≤ m → queue-at e m ≡ v .mutex .queue
-  queue-mutex l = queue-of e m l ∙ ap (λ (x : reference.Mutex). x .queue) (mutex-here l)
+  queue-mutex l = numbers.queue-mutex e m (in-eight l) ∙ ap (λ (x : reference.Mutex). x .queue) (mutex-here l)
 
-  -- all but the mutex's
-  but-mutex : v .ready ≡ s .ready → (n : ℕ) → n ≢ m → queue-at e n ≡ queue-at s n
-  but-mutex h zero d = h
-  but-mutex h (suc n) d = ap (λ (x : reference.Mutex). x .queue) (mutex-other (suc n) d)
+  queue-ready : queue-at e (number s p) ≡ v .ready
+  queue-ready =
+      numbers.queue-ready e (works-on s p) (works-there s p (f .before) (f .processor)) ∙
+      at-put-same (s .ready) (works-on s p) (v .ready) [] (omega (arith, works-there s p (f .before) (f .processor), f .before .placed .count))
 
-  -- all but the ready queue
-  but-ready : v .mutex .queue ≡ mutex-at s m .queue → (n : ℕ) → n ≢ 0 → queue-at e n ≡ queue-at s n
-  but-ready h zero d = absurd (d refl)
-  but-ready h (suc n) d =
+  -- a queue stays if what it shows does
+  queue-same : (n : ℕ) → (mutex-at e n .queue ≡ mutex-at s n .queue) → ((i : ℕ) → ready-index (s .stealing) i ≡ n → reference.queue-at e i ≡ reference.queue-at s i) →
+      queue-at e n ≡ queue-at s n
+  queue-same n h g =
+      elim (ℕ-discrete n 0) [
+        | yes z ↦ rw z (elim (ℕ-discrete (s .stealing) 0) [
+          | yes c ↦ numbers.queue-single e c ∙ g 1 (if-none (s .stealing) 0 (8 + 1) c ∙ sym z) ∙ sym (numbers.queue-single s c)
+          | no c ↦ numbers.queue-no-single e c ∙ sym (numbers.queue-no-single s c)
+        ])
+        | no z ↦
+            elim (decLe n 8) [
+              | yes l ↦ numbers.queue-mutex e n (omega arith) ∙ h ∙ sym (numbers.queue-mutex s n (omega arith))
+              | no l ↦
+                  elim (ℕ-discrete (s .stealing) 0) [
+                    | yes c ↦ numbers.queue-no-each e n (omega arith) c ∙ sym (numbers.queue-no-each s n (omega arith) c)
+                    | no c ↦
+                        let o : 8 + (n - 8) ≡ n = omega arith in
+                        numbers.queue-each e n (omega arith) c ∙ g (n - 8) (if-some (s .stealing) 0 (8 + (n - 8)) c ∙ o) ∙ sym (numbers.queue-each s n (omega arith) c)
+                  ]
+            ]
+      ]
+
+  mutex-same : v .mutex .queue ≡ mutex-at s m .queue → (n : ℕ) → mutex-at e n .queue ≡ mutex-at s n .queue
+  mutex-same h zero = refl
+  mutex-same h (suc n) =
       elim (ℕ-discrete (suc n) m) [
         | yes c ↦ subst (λ (n : ℕ). mutex-at e n .queue ≡ mutex-at s n .queue) (sym c) (ap (λ (x : reference.Mutex). x .queue) (mutex-here (omega arith)) ∙ h)
         | no c ↦ ap (λ (x : reference.Mutex). x .queue) (mutex-other (suc n) c)
       ]
 
-  all-queues : v .ready ≡ s .ready → v .mutex .queue ≡ mutex-at s m .queue → (n : ℕ) → queue-at e n ≡ queue-at s n
-  all-queues h g zero = h
-  all-queues h g (suc n) = but-ready g (suc n) (omega arith)
+  ready-other : (i : ℕ) → i ≢ works-on s p → reference.queue-at e i ≡ reference.queue-at s i
+  ready-other i d = at-put-other (s .ready) (works-on s p) i (v .ready) [] d
+
+  ready-same : v .ready ≡ reference.queue-at s (works-on s p) → (i : ℕ) → reference.queue-at e i ≡ reference.queue-at s i
+  ready-same h i =
+      elim (ℕ-discrete i (works-on s p)) [
+        | yes c ↦
+            subst (λ (i : ℕ). reference.queue-at e i ≡ reference.queue-at s i) (sym c)
+            (at-put-same (s .ready) (works-on s p) (v .ready) [] (omega (arith, works-there s p (f .before) (f .processor), f .before .placed .count)) ∙ h)
+        | no c ↦ ready-other i c
+      ]
+
+  -- all but the mutex's
+  but-mutex : v .ready ≡ reference.queue-at s (works-on s p) → (n : ℕ) → n ≢ m → queue-at e n ≡ queue-at s n
+  but-mutex h n d = queue-same n (ap (λ (x : reference.Mutex). x .queue) (mutex-other n d)) (λ i c. ready-same h i)
+
+  -- all but the ready queue
+  but-ready : v .mutex .queue ≡ mutex-at s m .queue → (n : ℕ) → n ≢ number s p → queue-at e n ≡ queue-at s n
+  but-ready h n d = queue-same n (mutex-same h n) (λ i c. ready-other i (λ z. d (sym c ∙ ap (ready-index (s .stealing)) z)))
+
+  all-queues : v .ready ≡ reference.queue-at s (works-on s p) → v .mutex .queue ≡ mutex-at s m .queue → (n : ℕ) → queue-at e n ≡ queue-at s n
+  all-queues h g n = queue-same n (mutex-same g n) (λ i c. ready-same h i)
 
   -- ---- every thread but k stays where it is
 
@@ -95,6 +158,7 @@ module _ (s : reference.State) (p m i j : ℕ) (v : View) (f : Frame s p m i j v
         P = refl;
         T = refl;
         M = refl;
+        stealing = refl;
         queues = a;
         current = registers (λ r. r .current) b;
         transit = registers (λ r. r .transit) c;
@@ -110,7 +174,7 @@ module _ (s : reference.State) (p m i j : ℕ) (v : View) (f : Frame s p m i j v
           ]
 
   -- a thread goes to a place outside the queues
-  marks : (k : ℕ) → In (s .T) k → (x : Spot) → AtSpot e k x → v .ready ≡ s .ready → v .mutex .queue ≡ mutex-at s m .queue →
+  marks : (k : ℕ) → In (s .T) k → (x : Spot) → AtSpot e k x → v .ready ≡ reference.queue-at s (works-on s p) → v .mutex .queue ≡ mutex-at s m .queue →
       Holds k (processor-at s p .current) (v .proc .current) → Holds k (processor-at s p .transit) (v .proc .transit) →
       ((x : ℕ) → 1 ≤ x → x ≢ k → (x ≢ i) × (x ≢ j)) →
       encode e .chains ≡ placed (encode s .chains) k (thread-record (entry-for e k x))
@@ -159,7 +223,7 @@ module _ (s : reference.State) (p m i j : ℕ) (v : View) (f : Frame s p m i j v
       with-applied (encode s .applied + 1) (with-processor p (processor-record (v .proc)) (with-mutex m (mutex-record (v .mutex)) (with-chains c (encode s))))
   unfolding encode
   record-after h a =
-      λ i. record { p = s .P; t = s .T; m = s .M; applied = sym (add-one (s .applied)) i; chains = a i; processors = processors-set i; mutexes = mutexes-set h i }
+      λ i. record { p = s .P; t = s .T; m = s .M; stealing = s .stealing; applied = sym (add-one (s .applied)) i; chains = a i; processors = processors-set i; mutexes = mutexes-set h i }
 
 -- ---- the transfers, by what the view v that is put back has of the queues and of the current and transit registers
 
@@ -173,7 +237,7 @@ lives-stay k x l n = (omega arith, omega arith)
 module _ (s : reference.State) (p m : ℕ) (v : View) where
   module _ (f : Frame s p m 0 0 v) where
     -- no thread moves
-    pub stay : v .ready ≡ s .ready → v .mutex .queue ≡ mutex-at s m .queue → v .proc .current ≡ processor-at s p .current → v .proc .transit ≡ processor-at s p .transit →
+    pub stay : v .ready ≡ reference.queue-at s (works-on s p) → v .mutex .queue ≡ mutex-at s m .queue → v .proc .current ≡ processor-at s p .current → v .proc .transit ≡ processor-at s p .transit →
         encode (put-back s p m 0 0 v) .chains ≡ encode s .chains
     stay h g c t =
         none-moves s (put-back s p m 0 0 v) (f .before) (f .after)
@@ -181,7 +245,7 @@ module _ (s : reference.State) (p m : ℕ) (v : View) where
         (holds-same c) (holds-same t) (lives-stay 0))
         (all-queues s p m 0 0 v f h g)
 
-    module _ (k : ℕ) (r : In (s .T) k) (h : v .ready ≡ s .ready) (g : v .mutex .queue ≡ mutex-at s m .queue) where
+    module _ (k : ℕ) (r : In (s .T) k) (h : v .ready ≡ reference.queue-at s (works-on s p)) (g : v .mutex .queue ≡ mutex-at s m .queue) where
       -- the transit register is loaded
       pub load : processor-at s p .current ≡ 0 → processor-at s p .transit ≡ k → v .proc .current ≡ k →
           encode (put-back s p m 0 0 v) .chains ≡ placed (encode s .chains) k (thread-as 3 p 0)
@@ -197,7 +261,7 @@ module _ (s : reference.State) (p m : ℕ) (v : View) where
           (holds-it c) (holds-none t) (lives-stay k)
 
   -- a new thread goes to the transit register
-  pub create : (k : ℕ) → Frame s p m k 0 v → In (s .T) k → v .ready ≡ s .ready → v .mutex .queue ≡ mutex-at s m .queue →
+  pub create : (k : ℕ) → Frame s p m k 0 v → In (s .T) k → v .ready ≡ reference.queue-at s (works-on s p) → v .mutex .queue ≡ mutex-at s m .queue →
       v .proc .current ≡ processor-at s p .current → processor-at s p .transit ≡ 0 → v .proc .transit ≡ k →
       encode (put-back s p m k 0 v) .chains ≡ placed (encode s .chains) k (thread-as 4 p 0)
   create k f r h g c t now =
@@ -205,7 +269,7 @@ module _ (s : reference.State) (p m : ℕ) (v : View) where
       (holds-same c) (holds-none t) (λ x l n. (n, omega arith))
 
   -- the current thread terminates
-  pub terminate : (k : ℕ) → Frame s p m 0 k v → In (s .T) k → v .ready ≡ s .ready → v .mutex .queue ≡ mutex-at s m .queue →
+  pub terminate : (k : ℕ) → Frame s p m 0 k v → In (s .T) k → v .ready ≡ reference.queue-at s (works-on s p) → v .mutex .queue ≡ mutex-at s m .queue →
       processor-at s p .current ≡ k → v .proc .transit ≡ processor-at s p .transit →
       encode (put-back s p m 0 k v) .chains ≡ placed (encode s .chains) k (thread-as 5 0 0)
   terminate k f r h g c t =
@@ -226,7 +290,7 @@ module _ (s : reference.State) (p m : ℕ) (v : View) where
             ]
 
     -- the first of a queue goes to the transit register
-    takes : (q : ℕ) (rest : List ℕ) → q ≤ s .M → ((n : ℕ) → n ≢ q → queue-at (put-back s p m 0 0 v) n ≡ queue-at s n) →
+    takes : (q : ℕ) (rest : List ℕ) → q ≤ 16 → ((n : ℕ) → n ≢ q → queue-at (put-back s p m 0 0 v) n ≡ queue-at s n) →
         queue-at s q ≡ k ∷ rest → queue-at (put-back s p m 0 0 v) q ≡ rest → processor-at s p .transit ≡ 0 → v .proc .transit ≡ k →
         encode (put-back s p m 0 0 v) .chains ≡ removed (encode s .chains) q k (first rest) (thread-as 4 p 0)
     takes q rest l o was now t to =
@@ -234,31 +298,35 @@ module _ (s : reference.State) (p m : ℕ) (v : View) where
         (moves q o (λ x d. rw (was, now) (omega (arith, occurs-skip x k rest d))) (holds-none t)) (transit p)
         (now-transit s p m 0 0 v f k to)
 
-    pub take-ready : (rest : List ℕ) → s .ready ≡ k ∷ rest → v .ready ≡ rest → v .mutex .queue ≡ mutex-at s m .queue →
+    pub take-ready : (rest : List ℕ) → reference.queue-at s (works-on s p) ≡ k ∷ rest → v .ready ≡ rest → v .mutex .queue ≡ mutex-at s m .queue →
         processor-at s p .transit ≡ 0 → v .proc .transit ≡ k →
-        encode (put-back s p m 0 0 v) .chains ≡ removed (encode s .chains) 0 k (first rest) (thread-as 4 p 0)
-    take-ready rest was now g = takes 0 rest (omega arith) (but-ready s p m 0 0 v f g) was now
+        encode (put-back s p m 0 0 v) .chains ≡ removed (encode s .chains) (number s p) k (first rest) (thread-as 4 p 0)
+    take-ready rest was now g =
+        takes (number s p) rest (number-most s p (f .before) (f .processor)) (but-ready s p m 0 0 v f g)
+        (numbers.queue-ready s (works-on s p) (works-there s p (f .before) (f .processor)) ∙ was) (queue-ready s p m 0 0 v f ∙ now)
 
-    pub take-queue : (rest : List ℕ) → 1 ≤ m → mutex-at s m .queue ≡ k ∷ rest → v .mutex .queue ≡ rest → v .ready ≡ s .ready →
+    pub take-queue : (rest : List ℕ) → 1 ≤ m → mutex-at s m .queue ≡ k ∷ rest → v .mutex .queue ≡ rest → v .ready ≡ reference.queue-at s (works-on s p) →
         processor-at s p .transit ≡ 0 → v .proc .transit ≡ k →
         encode (put-back s p m 0 0 v) .chains ≡ removed (encode s .chains) m k (first rest) (thread-as 4 p 0)
     take-queue rest l was now h =
-        takes m rest (f .mutex) (but-mutex s p m 0 0 v f h) (queue-of s m l ∙ was) (queue-mutex s p m 0 0 v f l ∙ now)
+        takes m rest (omega (arith, in-eight s p m 0 0 v f l)) (but-mutex s p m 0 0 v f h) (numbers.queue-mutex s m (in-eight s p m 0 0 v f l) ∙ was) (queue-mutex s p m 0 0 v f l ∙ now)
 
     -- the transit register's thread joins a queue
     module _ (r : In (s .T) k) (t : processor-at s p .transit ≡ k) where
-      join : (q : ℕ) → q ≤ s .M → ((n : ℕ) → n ≢ q → queue-at (put-back s p m 0 0 v) n ≡ queue-at s n) →
+      join : (q : ℕ) → q ≤ 16 → ((n : ℕ) → n ≢ q → queue-at (put-back s p m 0 0 v) n ≡ queue-at s n) →
           queue-at (put-back s p m 0 0 v) q ≡ queue-at s q ++ k ∷ [] → encode (put-back s p m 0 0 v) .chains ≡ joined (encode s .chains) q k
       join q l o now =
           one-joins s (put-back s p m 0 0 v) (f .before) (f .after) q l o k r now
           (moves q o (λ x d. rw now (omega (arith, occurs-snoc x k (queue-at s q) d))) (holds-it t))
 
-      pub join-ready : v .ready ≡ s .ready ++ k ∷ [] → v .mutex .queue ≡ mutex-at s m .queue →
-          encode (put-back s p m 0 0 v) .chains ≡ joined (encode s .chains) 0 k
-      join-ready now g = join 0 (omega arith) (but-ready s p m 0 0 v f g) now
+      pub join-ready : v .ready ≡ reference.queue-at s (works-on s p) ++ k ∷ [] → v .mutex .queue ≡ mutex-at s m .queue →
+          encode (put-back s p m 0 0 v) .chains ≡ joined (encode s .chains) (number s p) k
+      join-ready now g =
+          join (number s p) (number-most s p (f .before) (f .processor)) (but-ready s p m 0 0 v f g)
+          (queue-ready s p m 0 0 v f ∙ now ∙ ap (λ (q : List ℕ). q ++ k ∷ []) (sym (numbers.queue-ready s (works-on s p) (works-there s p (f .before) (f .processor)))))
 
-      pub join-queue : 1 ≤ m → v .mutex .queue ≡ mutex-at s m .queue ++ k ∷ [] → v .ready ≡ s .ready →
+      pub join-queue : 1 ≤ m → v .mutex .queue ≡ mutex-at s m .queue ++ k ∷ [] → v .ready ≡ reference.queue-at s (works-on s p) →
           encode (put-back s p m 0 0 v) .chains ≡ joined (encode s .chains) m k
       join-queue l now h =
-          join m (f .mutex) (but-mutex s p m 0 0 v f h)
-          (queue-mutex s p m 0 0 v f l ∙ now ∙ ap (λ (q : List ℕ). q ++ k ∷ []) (sym (queue-of s m l)))
+          join m (omega (arith, in-eight s p m 0 0 v f l)) (but-mutex s p m 0 0 v f h)
+          (queue-mutex s p m 0 0 v f l ∙ now ∙ ap (λ (q : List ℕ). q ++ k ∷ []) (sym (numbers.queue-mutex s m (in-eight s p m 0 0 v f l))))

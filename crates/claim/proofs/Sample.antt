@@ -5,7 +5,7 @@ use mathlib.Core.List.{List, [], _∷_, _++_}
 use mathlib.Core.Path.{_≡_, refl, sym, ap, _∙_, subst}
 use native.Mathlib.Omega.{arith}
 use lib.ListN.{length, getD, replicate, length-replicate}
-use Rattle.reference.specs.Lists.{tabulate, same-list, each}
+use Rattle.reference.specs.Lists.{tabulate, those, same-list, each}
 use Rattle.reference.specs.State.{same-state}
 use Rattle.reference.specs.Start.{Config, config-cause, start}
 use Rattle.reference.specs.Step.{Move, move-of, next, run, act, action-of, line}
@@ -26,7 +26,7 @@ ask-with o q = asks (record { request = q; lent = other o })
 
 -- two processors with a thread each, one mutex
 abbrev pub two : Config
-two = record { P = 2; T = 2; M = 1; B = 2 }
+two = record { P = 2; T = 2; M = 1; B = 2; stealing = 0 }
 
 -- thread 1 locks and unlocks mutex 1, thread 2 unlocks it
 abbrev pub scripts : List ℕ
@@ -109,7 +109,7 @@ numbers =
 
 -- what the sample computes with: to unfold this is to unfold all that its line names
 computing : Unit {0}
-unfolding after-moves bytes asked answers numbers-of Fits config-cause start tabulate run next act line cause action-of replays all-but-last accepted moves same-state same-list each script-ok scripts-ok progress turn-move class-moves class-answers
+unfolding after-moves bytes asked answers numbers-of Fits config-cause start tabulate those run next act line cause action-of replays all-but-last accepted moves same-state same-list each script-ok scripts-ok progress turn-move class-moves class-answers
 computing = tt
 
 sample-answers : numbers-of (answers two 12000 [] (asked sample)) ≡ numbers

@@ -3,7 +3,7 @@
 use Prim.Native.Nat.{ℕ}
 use mathlib.Core.Path.{_≡_, refl, ap}
 use native.Mathlib.Omega.{arith}
-use Rattle.reference.specs.Lists.{tabulate, find, sum, is}
+use Rattle.reference.specs.Lists.{tabulate, those, find, sum, is}
 use Rattle.reference.specs.Start.{start}
 use Rattle.reference.specs.Step.{Move, next, run, act, action-of, line}
 use Rattle.reference.specs.Cause.{cause, accepted}
@@ -12,11 +12,11 @@ use Rattle.reference.specs.Script.{progress, turn-move, class-moves, class-answ
 use Rattle.claim.specs.Worked.{HandOff, SameRecord}
 
 pub hand-off : HandOff
-unfolding start tabulate run next act line cause action-of progress turn-move class-moves class-answers find sum is behind thread-entry concat picture
+unfolding start tabulate those run next act line cause action-of progress turn-move class-moves class-answers find sum is behind thread-entry concat picture
 hand-off = record { answers = refl; moves = refl; waiting = refl; handed = (refl, refl); shown = refl }
 
 pub same-record : SameRecord
-unfolding start tabulate run next act line cause action-of accepted progress turn-move
+unfolding start tabulate those run next act line cause action-of accepted progress turn-move
 same-record =
     record {
       legal = (refl, refl);

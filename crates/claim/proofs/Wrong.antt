@@ -7,15 +7,17 @@ use mathlib.Core.Path.{_≡_, refl, ap}
 use native.Mathlib.Omega.{arith}
 use native.Mathlib.Bridge.{le-by-compare, IsLe}
 use lib.Dec.{eqb, leb, ltb}
-use lib.ListN.{length, getD, set, replicate}
+use lib.ListN.{length, getD, set, replicate, drop}
+use Rattle.state.specs.declared.Processor.{Processor}
 use Rattle.state.specs.declared.Session.{Session}
-use Rattle.state.specs.Record.{zero-session, zero-processor, chain}
+use Rattle.state.specs.Record.{zero-session, zero-processor, processor-of, chain}
+use Rattle.state.specs.Model.{with-processor}
 use Rattle.state.specs.Association.{encode, decode, session-record}
 use Rattle.state.specs.Rules.{session-ok, state-ok, zero-past, broken-rule, fields-ok, chains-ok, holders-ok, chain-ok, processor-ok, mutex-ok, thread-ok, every, no-twice}
 use Rattle.reference.specs.Refusal.{refuse}
-use Rattle.reference.specs.Lists.{choose, in-range, with-front, tabulate, find, sum, is, same-list, each}
+use Rattle.reference.specs.Lists.{choose, in-range, with-front, tabulate, those, find, sum, is, same-list, each}
 use Rattle.reference.specs.State.{line-of, same-state, processor-at}
-use Rattle.reference.specs.Start.{Config, config-cause, start}
+use Rattle.reference.specs.Start.{Config, config-cause, itself, start}
 use Rattle.reference.specs.Step.{Move, move-of, next, run, act, action-of, line}
 use Rattle.reference.specs.Cause.{cause, accepted, is-go, at-app}
 use Rattle.reference.specs.Break.{step-breaks}
@@ -23,6 +25,7 @@ use Rattle.reference.specs.Safe.{one-if}
 use Rattle.reference.specs.Snapshot.{thread-entry, behind, picture, concat}
 use Rattle.reference.specs.Script.{script-length, script-action, script-ok, scripts-ok, scripts-cause, progress, turn-move, turn-cause, turn-after, class-moves, class-answers, class-pictures}
 use Rattle.reference.specs.Session.{Opening, table, scripted, Request, move, turn, class, back, own, other, Call, Reply, bytes, moves, all-but-last, replays, lacks-room, left, answers}
+use Rattle.reference.specs.OneProcessor.{choosing}
 use Rattle.snapshot.specs.Snapshot.{written}
 use Rattle.session.specs.Contract.{shown, config-of, answered, or-later, started, lent-refusal, move-refusal, moved, written-at, journal-after, standing, replayed, progress-in, undo-refusal, undone}
 use Rattle.turns.specs.Contract.{turn-made, turn-refusal, turned, turn-journal, class-refusal, class-made, classed, class-journal, answers-after, pictures-after}
@@ -96,7 +99,7 @@ class-by-right r j x ps a b = refl
 -- ---- what they are tried on
 
 abbrev one : Config
-one = record { P = 1; T = 1; M = 1; B = 1 }
+one = record { P = 1; T = 1; M = 1; B = 1; stealing = 0 }
 
 abbrev alone : Opening
 alone = table one
@@ -126,7 +129,7 @@ byte i k e = ap (byte-of i k) e
 
 -- what the refutations compute with: to unfold this is to unfold all that its line names
 computing : Unit {0}
-unfolding long stranger told asked hand left answers IsSession config-cause started start tabulate encode decode chain run next act line line-of cause action-of lent-refusal replayed replays all-but-last move-refusal moved journal-after undo-refusal undone step-breaks written-at bytes session-ok state-ok broken-rule fields-ok processor-ok mutex-ok thread-ok chains-ok chain-ok holders-ok zero-past each every no-twice find sum is thread-entry behind accepted moves same-state same-list script-ok scripts-ok progress turn-move turn-refusal turned turn-journal class-moves class-answers class-pictures class-refusal classed class-journal answers-after pictures-after written picture concat
+unfolding long stranger told asked hand left answers IsSession config-cause started start tabulate those encode decode chain run next act line line-of cause action-of lent-refusal replayed replays all-but-last move-refusal moved journal-after undo-refusal undone step-breaks written-at bytes session-ok state-ok broken-rule fields-ok processor-ok mutex-ok thread-ok chains-ok chain-ok holders-ok zero-past each every no-twice find sum is thread-entry behind accepted moves same-state same-list script-ok scripts-ok progress turn-move turn-refusal turned turn-journal class-moves class-answers class-pictures class-refusal classed class-journal answers-after pictures-after written picture concat
 computing = tt
 
 -- ---- It refuses every move.
@@ -155,6 +158,7 @@ counted r =
         p = r .state .p;
         t = r .state .t;
         m = r .state .m;
+        stealing = r .state .stealing;
         applied = suc (r .state .applied);
         chains = r .state .chains;
         processors = r .state .processors;
@@ -302,7 +306,65 @@ starts (scripted c x) j = outcome (answered (or-later (scripts-cause (c .T) x) (
 starter : Demand3 (record { begin = starts; call = calls; write = contract .write }) → ⊥
 unfolding starts computing
 starter d =
-    let n : _≡_ {A = ℕ} 19 1 = d .opens (scripted (record { P = 9; T = 1; M = 1; B = 1 }) []) [] in
+    let n : _≡_ {A = ℕ} 19 1 = d .opens (scripted (record { P = 9; T = 1; M = 1; B = 1; stealing = 0 }) []) [] in
+    omega arith
+
+-- ---- A start leaves out its fifth number.
+
+-- with a ready queue for each of two processors
+abbrev queued-each : Opening
+queued-each = table (record { P = 2; T = 3; M = 1; B = 2; stealing = 1 })
+
+shares : Opening → List ℕ → Outcome
+shares (table c) j = begins (table (choosing 0 c)) j
+shares (scripted c x) j = begins (scripted c x) j
+
+sharer : Demand3 (record { begin = shares; call = calls; write = contract .write }) → ⊥
+unfolding shares computing
+sharer d =
+    let n : _≡_ {A = ℕ} 0 1 = ap (λ (r : Session). r .state .stealing) (d .sessions queued-each long refl [] tt .state) in
+    omega arith
+
+-- ---- Y1 looks at all ready queues.
+
+-- processor p of the record stands at Y2
+abbrev at-Y2 : Session → ℕ → Session
+at-Y2 r p =
+    let x : Processor = processor-of (r .state) p in
+    record {
+      state = with-processor p
+          (record {
+            position = 22;
+            current = x .current;
+            transit = x .transit;
+            mutex = x .mutex;
+            observed = x .observed;
+            sequence = x .sequence;
+            answer = x .answer;
+            probe = x .probe;
+          })
+          (r .state);
+      initial = r .initial;
+    }
+
+wanders : Session → List ℕ → Move → Outcome
+wanders r j a =
+    let o : Outcome = calls r j (move a) in
+    let ready : Bool = ltb 0 (sum itself (drop 9 (r .state .chains .firsts))) in
+    record {
+      refusal = o .refusal;
+      session = choose (eqb (processor-of (r .state) (a .processor) .position) 21 && eqb (o .refusal) 0 && ready) (at-Y2 (o .session) (a .processor)) (o .session);
+      journal = o .journal;
+      buffers = [];
+    }
+
+-- processor 2 creates thread 3 into its own queue; processor 1 yields and finds its own empty
+wanderer : Demand3 (moving wanders) → ⊥
+unfolding wanders computing
+wanderer d =
+    let e = d .sessions queued-each long refl
+    (ask (move (move-of 2 6 3)) ∷ ask (move (move-of 2 0 0)) ∷ ask (move (move-of 1 4 0)) ∷ ask (move (move-of 1 0 0)) ∷ []) (tt, (tt, (tt, (tt, tt)))) .state in
+    let n : _≡_ {A = ℕ} 22 0 = ap (λ (r : Session). getD (r .state .processors) 1 zero-processor .position) e in
     omega arith
 
 -- ---- A turn tries 19 after 2.

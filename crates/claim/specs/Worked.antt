@@ -15,7 +15,7 @@ use Rattle.reference.specs.Script.{progress, turned, class-moves, class-answers
 
 -- start 2 2 1 2
 abbrev pub two : Config
-two = record { P = 2; T = 2; M = 1; B = 2 }
+two = record { P = 2; T = 2; M = 1; B = 2; stealing = 0 }
 
 -- ---- the class
 
@@ -55,7 +55,7 @@ pub record HandOff : Type 0 where
       move-of 1 5 0 ∷ go 1 ∷ go 2 ∷ go 1 ∷ move-of 1 3 1 ∷ go 1 ∷ go 2 ∷ move-of 1 5 0 ∷ go 1 ∷ go 2 ∷ []
   -- thread 1 owns and thread 2 waits; then thread 2 owns, taken from the queue and ready
   pub waiting : mutex-at (state-after until-waiting) 1 ≡ mutex 2 (2 ∷ []) 1
-  pub handed : (mutex-at (state-after until-handed) 1 ≡ mutex 1 [] 2) × (state-after until-handed .ready ≡ 2 ∷ [])
+  pub handed : (mutex-at (state-after until-handed) 1 ≡ mutex 1 [] 2) × (state-after until-handed .ready ≡ (2 ∷ []) ∷ [])
   -- at the end: 21 moves stand, both processors are at CI2, the mutex is free, both threads have ended
   pub shown : picture (state-after turns) ≡
       2 ∷ 2 ∷ 1 ∷ 0 ∷ 0 ∷ 21 ∷ 0 ∷ 0 ∷

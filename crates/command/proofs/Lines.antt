@@ -8,9 +8,9 @@ use mathlib.Core.List.{List, [], _∷_, _++_, append-nil}
 use lib.Dec.{eqb, ltb}
 use lib.ListN.{length, getD, drop, length-append, drop-of-length-le}
 use lib.Seq.{drop-append-seam, drop-append-add, drop-drop}
-use borrow.Author.Tests.{lt-ltb, ltb-true, eq-eqb, eqb-true}
+use borrow.Author.Tests.{lt-ltb, ltb-true, eq-eqb, ne-eqb, eqb-true}
 use Rattle.command.specs.declared.Command.{Command}
-use Rattle.command.specs.declared.Command.the-variants.{Start, Move, Back, Show, Unknown}
+use Rattle.command.specs.declared.Command.the-variants.{Start, StartWith, Move, Back, Show, Unknown}
 use Rattle.command.specs.declared.reading.Field.{Field}
 use Rattle.command.specs.declared.reading.Three.{Three}
 use Rattle.command.specs.Reading.{is-digit, no-three, field-at, three-from, three-at, starts, start-from, start-of, move-from, move-of}
@@ -22,6 +22,10 @@ use Rattle.command.proofs.Fields.{field-spelled, field-only}
 no-digit : (n : ℕ) (rest : List ℕ) → is-digit (getD (field n ++ rest) 0 0) ≡ false
 unfolding field
 no-digit n rest = refl
+
+last-digit : (n : ℕ) → is-digit (getD (field n) 0 0) ≡ false
+unfolding field
+last-digit n = refl
 
 field-positive : (n : ℕ) → 0 < length (field n)
 unfolding field
@@ -104,6 +108,36 @@ start-spelled p t m b hp ht hm hb =
     let n : 5 + length (field p) + (length (field t) + length (field m) + length (field b)) ≡ length (start-word ++ (field p ++ rest)) = simp length-append (omega arith) in
     rw (f, d, g, lt-ltb 0 (length (field p)) (field-positive p), lt-ltb 0 (length (field t) + length (field m) + length (field b)) (omega (arith, field-positive t)), eq-eqb _ _ n)
 
+with-spelled : (p t m b c : ℕ) → p ≤ 255 → t ≤ 255 → m ≤ 255 → b ≤ 255 → c ≤ 255 → start-of (spell (StartWith p t m b c)) ≡ StartWith p t m b c
+unfolding spell start-of start-from
+with-spelled p t m b c hp ht hm hb hc =
+    let rest = field t ++ (field m ++ (field b ++ field c)) in
+    let l = start-word ++ (field p ++ rest) in
+    let three = length (field t) + length (field m) + length (field b) in
+    let f : field-at (field p ++ rest) ≡ record { value = p; width = length (field p) } = field-spelled p rest hp (no-digit t (field m ++ (field b ++ field c))) in
+    let g : three-at rest ≡ record { first = t; second = m; third = b; width = three } = three-spelled t m b (field c) ht hm hb (last-digit c) in
+    let d : drop (5 + length (field p)) l ≡ rest = drop-append-add start-word (field p ++ rest) (length (field p)) ∙ drop-append-seam (field p) rest in
+    let a : three ≡ length (field t) + (length (field m) + length (field b)) = omega arith in
+    let e : drop (5 + length (field p) + three) l ≡ field c =
+    sym (drop-drop three (5 + length (field p)) l) ∙ ap (drop three) d ∙ ap (λ (n : ℕ). drop n rest) a ∙
+    drop-append-add (field t) (field m ++ (field b ++ field c)) (length (field m) + length (field b)) ∙
+    drop-append-add (field m) (field b ++ field c) (length (field b)) ∙ drop-append-seam (field b) (field c) in
+    let h : field-at (field c) ≡ record { value = c; width = length (field c) } = ap field-at (sym (append-nil (field c))) ∙ field-spelled c [] hc refl in
+    let k : 5 + length (field p) + three ≡ length l → ⊥ = λ n. omega (arith, simp length-append at n, field-positive c) in
+    let n : 5 + length (field p) + three + length (field c) ≡ length l = simp length-append (omega arith) in
+    rw (
+      f,
+      d,
+      g,
+      e,
+      h,
+      lt-ltb 0 (length (field p)) (field-positive p),
+      lt-ltb 0 three (omega (arith, field-positive t)),
+      lt-ltb 0 (length (field c)) (field-positive c),
+      ne-eqb _ _ k,
+      eq-eqb _ _ n,
+    )
+
 move-spelled : (p a o : ℕ) → p ≤ 255 → a ≤ 255 → o ≤ 255 → move-of (spell (Move p a o)) ≡ Move p a o
 unfolding spell move-of move-from
 move-spelled p a o hp ha ho =
@@ -116,6 +150,10 @@ starts-start : (p t m b : ℕ) → command-of (spell (Start p t m b)) ≡ start-
 unfolding command-of spell starts
 starts-start p t m b = refl
 
+starts-with : (p t m b c : ℕ) → command-of (spell (StartWith p t m b c)) ≡ start-of (spell (StartWith p t m b c))
+unfolding command-of spell starts
+starts-with p t m b c = refl
+
 starts-move : (p a o : ℕ) → command-of (spell (Move p a o)) ≡ move-of (spell (Move p a o))
 unfolding command-of spell starts
 starts-move p a o = refl
@@ -124,6 +162,7 @@ starts-move p a o = refl
 pub spelled-read : (c : Command) → Known c → command-of (spell c) ≡ c
 unfolding command-of spell starts
 spelled-read (Start p t m b) h = starts-start p t m b ∙ start-spelled p t m b (h .0) (h .1) (h .2) (h .3)
+spelled-read (StartWith p t m b c) h = starts-with p t m b c ∙ with-spelled p t m b c (h .0) (h .1) (h .2) (h .3) (h .4)
 spelled-read (Move p a o) h = starts-move p a o ∙ move-spelled p a o (h .0) (h .1) (h .2)
 spelled-read Back h = refl
 spelled-read Show h = refl
@@ -145,9 +184,36 @@ start-only l s = go (ltb 0 (p .width) && ltb 0 (r .width) && eqb (5 + p .width +
     r : Three
     r = three-at (drop (5 + p .width) l)
 
+    c : Field
+    c = field-at (drop (5 + p .width + r .width) l)
+
+    five : (t : Bool) → (ltb 0 (p .width) && ltb 0 (r .width) && ltb 0 (c .width) && eqb (5 + p .width + r .width + c .width) (length l)) ≡ t
+        → (cond t (StartWith (p .value) (r .first) (r .second) (r .third) (c .value)) Unknown ≡ Unknown) ⊎ Written l (cond t (StartWith (p .value) (r .first) (r .second) (r .third) (c .value)) Unknown)
+    five false e = inl refl
+    five true e =
+        let u = both (ltb 0 (p .width) && ltb 0 (r .width) && ltb 0 (c .width)) (eqb (5 + p .width + r .width + c .width) (length l)) e in
+        let v = both (ltb 0 (p .width) && ltb 0 (r .width)) (ltb 0 (c .width)) (u .0) in
+        let w = both (ltb 0 (p .width)) (ltb 0 (r .width)) (v .0) in
+        let fp = field-only (drop 5 l) (ltb-true 0 (p .width) (w .0)) in
+        let fr = three-only (drop (5 + p .width) l) (ltb-true 0 (r .width) (w .1)) in
+        let fc = field-only (drop (5 + p .width + r .width) l) (ltb-true 0 (c .width) (v .1)) in
+        let n = eqb-true (5 + p .width + r .width + c .width) (length l) (u .1) in
+        let m : length l ≤ 5 + p .width + r .width + c .width = omega arith in
+        let end : drop (c .width) (drop (5 + p .width + r .width) l) ≡ [] = drop-drop (c .width) (5 + p .width + r .width) l ∙ drop-of-length-le l m in
+        inr (record {
+          line = starts-front start-word l s
+              ∙ ap (λ (x : List ℕ). start-word ++ x)
+              (fp .front ∙ ap (λ (x : List ℕ). field (p .value) ++ x)
+              (drop-drop (p .width) 5 l ∙ fr .front
+              ∙ ap (λ (x : List ℕ). field (r .first) ++ (field (r .second) ++ (field (r .third) ++ x)))
+              (drop-drop (r .width) (5 + p .width) l ∙ fc .front ∙ ap (λ (x : List ℕ). field (c .value) ++ x) end ∙ append-nil (field (c .value)))));
+          known = (fp .small, fr .small .0, fr .small .1, fr .small .2, fc .small);
+        })
+
     go : (t : Bool) → (ltb 0 (p .width) && ltb 0 (r .width) && eqb (5 + p .width + r .width) (length l)) ≡ t
-        → (cond t (Start (p .value) (r .first) (r .second) (r .third)) Unknown ≡ Unknown) ⊎ Written l (cond t (Start (p .value) (r .first) (r .second) (r .third)) Unknown)
-    go false e = inl refl
+        → (cond t (Start (p .value) (r .first) (r .second) (r .third)) (cond (ltb 0 (p .width) && ltb 0 (r .width) && ltb 0 (c .width) && eqb (5 + p .width + r .width + c .width) (length l)) (StartWith (p .value) (r .first) (r .second) (r .third) (c .value)) Unknown) ≡ Unknown)
+        ⊎ Written l (cond t (Start (p .value) (r .first) (r .second) (r .third)) (cond (ltb 0 (p .width) && ltb 0 (r .width) && ltb 0 (c .width) && eqb (5 + p .width + r .width + c .width) (length l)) (StartWith (p .value) (r .first) (r .second) (r .third) (c .value)) Unknown))
+    go false e = five (ltb 0 (p .width) && ltb 0 (r .width) && ltb 0 (c .width) && eqb (5 + p .width + r .width + c .width) (length l)) refl
     go true e =
         let u = both (ltb 0 (p .width) && ltb 0 (r .width)) (eqb (5 + p .width + r .width) (length l)) e in
         let v = both (ltb 0 (p .width)) (ltb 0 (r .width)) (u .0) in
@@ -232,7 +298,7 @@ read-spelled l c e n = go (read l)
     go (inl u) = absurd (n (sym e ∙ u))
     go (inr w) = subst (λ (x : Command). Written l x) e w
 
--- ---- no command is longer than 21 bytes
+-- ---- no command is longer than 25 bytes
 
 pub decimal-length : (n : ℕ) → length (decimal n) ≤ 3
 unfolding decimal
@@ -250,9 +316,10 @@ field-length : (n : ℕ) → length (field n) ≤ 4
 unfolding field
 field-length n = omega (arith, decimal-length n)
 
-pub spell-length : (c : Command) → length (spell c) ≤ 21
+pub spell-length : (c : Command) → length (spell c) ≤ 25
 unfolding spell
 spell-length (Start p t m b) = simp length-append (omega (arith, field-length p, field-length t, field-length m, field-length b))
+spell-length (StartWith p t m b c) = simp length-append (omega (arith, field-length p, field-length t, field-length m, field-length b, field-length c))
 spell-length (Move p a o) = simp length-append (omega (arith, field-length p, field-length a, field-length o))
 spell-length Back = omega arith
 spell-length Show = omega arith

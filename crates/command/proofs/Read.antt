@@ -21,9 +21,10 @@ three-read s at x y z ex ey ez =
     let z′ : z ≡ field-at (drop (x .width + y .width) (drop at s)) = ez ∙ rw (drop-drop (x .width + y .width) at s, n) in
     rw (← ex, ← y′, ← z′)
 
-pub start-read : (s : List ℕ) (p : Field) (r : Three) → p ≡ field-at (drop 5 s) → r ≡ three-at (drop (5 + p .width) s) → start-from p r (length s) ≡ start-of s
+pub start-read : (s : List ℕ) (p : Field) (r : Three) (c : Field) → p ≡ field-at (drop 5 s) → r ≡ three-at (drop (5 + p .width) s) → c ≡ field-at (drop (5 + p .width + r .width) s)
+    → start-from p r c (length s) ≡ start-of s
 unfolding start-of
-start-read s p r ep er = rw (← ep, ← er)
+start-read s p r c ep er ec = rw (← ep, ← er, ← ec)
 
 pub move-read : (s : List ℕ) (r : Three) → r ≡ three-at (drop 4 s) → move-from r (length s) ≡ move-of s
 unfolding move-of

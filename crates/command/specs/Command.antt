@@ -7,7 +7,7 @@ use mathlib.Core.List.{List, [], _∷_, _++_}
 use lib.Dec.{eqb, ltb}
 use lib.ListN.{length}
 use Rattle.command.specs.declared.Command.{Command}
-use Rattle.command.specs.declared.Command.the-variants.{Start, Move, Back, Show, Unknown}
+use Rattle.command.specs.declared.Command.the-variants.{Start, StartWith, Move, Back, Show, Unknown}
 use Rattle.command.specs.Reading.{starts, start-of, move-of}
 
 -- the decimal digits of a number below 1,000, without leading zeros; 48 is the digit 0
@@ -37,6 +37,7 @@ field n = 32 ∷ decimal n
 -- the line that is the command; Unknown is none
 unfoldable pub spell : Command → List ℕ
 spell (Start p t m b) = start-word ++ (field p ++ (field t ++ (field m ++ field b)))
+spell (StartWith p t m b c) = start-word ++ (field p ++ (field t ++ (field m ++ (field b ++ field c))))
 spell (Move p a o) = move-word ++ (field p ++ (field a ++ field o))
 spell Back = back-word
 spell Show = show-word
@@ -45,6 +46,7 @@ spell Unknown = []
 -- a command, with its numbers bytes
 abbrev pub Known : Command → Type 0
 Known (Start p t m b) = (p ≤ 255) × (t ≤ 255) × (m ≤ 255) × (b ≤ 255)
+Known (StartWith p t m b c) = (p ≤ 255) × (t ≤ 255) × (m ≤ 255) × (b ≤ 255) × (c ≤ 255)
 Known (Move p a o) = (p ≤ 255) × (a ≤ 255) × (o ≤ 255)
 Known Back = Unit {0}
 Known Show = Unit {0}

@@ -5,7 +5,7 @@ use mathlib.Core.List.{List, [], _∷_}
 use lib.Dec.{eqb, leb, ltb}
 use lib.ListN.{length, getD, drop}
 use Rattle.command.specs.declared.Command.{Command}
-use Rattle.command.specs.declared.Command.the-variants.{Start, Move, Unknown}
+use Rattle.command.specs.declared.Command.the-variants.{Start, StartWith, Move, Unknown}
 use Rattle.command.specs.declared.reading.Field.{Field}
 use Rattle.command.specs.declared.reading.Three.{Three}
 
@@ -52,11 +52,18 @@ starts [] l = true
 starts (x ∷ w) [] = false
 starts (x ∷ w) (y ∷ l) = eqb y x && starts w l
 
-unfoldable pub start-from : Field → Three → ℕ → Command
-start-from p r n = cond (ltb 0 (p .width) && ltb 0 (r .width) && eqb (5 + p .width + r .width) n) (Start (p .value) (r .first) (r .second) (r .third)) Unknown
+-- four numbers, or these and a fifth
+unfoldable pub start-from : Field → Three → Field → ℕ → Command
+start-from p r c n =
+    cond (ltb 0 (p .width) && ltb 0 (r .width) && eqb (5 + p .width + r .width) n) (Start (p .value) (r .first) (r .second) (r .third))
+    (cond (ltb 0 (p .width) && ltb 0 (r .width) && ltb 0 (c .width) && eqb (5 + p .width + r .width + c .width) n)
+    (StartWith (p .value) (r .first) (r .second) (r .third) (c .value))
+    Unknown)
 
 unfoldable pub start-of : List ℕ → Command
-start-of l = start-from (field-at (drop 5 l)) (three-at (drop (5 + field-at (drop 5 l) .width) l)) (length l)
+start-of l =
+    start-from (field-at (drop 5 l)) (three-at (drop (5 + field-at (drop 5 l) .width) l))
+    (field-at (drop (5 + field-at (drop 5 l) .width + three-at (drop (5 + field-at (drop 5 l) .width) l) .width) l)) (length l)
 
 unfoldable pub move-from : Three → ℕ → Command
 move-from r n = cond (ltb 0 (r .width) && eqb (4 + r .width) n) (Move (r .first) (r .second) (r .third)) Unknown

@@ -134,7 +134,7 @@ fn starts(word: &[u8], s: &[u8]) -> bool
     true
 }
 
-// A line that begins with `start`.
+// A line that begins with `start`: four numbers, or these and a fifth.
 fn start(s: &[u8]) -> Command
     ensures { λ r. ⌜ r ≡ start-of (now (s .entry)) ⌝ }
 {
@@ -142,11 +142,15 @@ fn start(s: &[u8]) -> Command
     let after = 5 + p.width as u16;
     let rest = three_at(s, after);
     let end = after as usize + rest.width as usize;
+    let stealing = field_at(s, end);
     if (0 < p.width) & (0 < rest.width) & (end == s.len()) {
-        Command::Start(p.value, rest.first, rest.second, rest.third)
-    } else {
-        Command::Unknown
+        return Command::Start(p.value, rest.first, rest.second, rest.third);
     }
+    let whole = end + stealing.width as usize;
+    if (0 < p.width) & (0 < rest.width) & (0 < stealing.width) & (whole == s.len()) {
+        return Command::StartWith(p.value, rest.first, rest.second, rest.third, stealing.value);
+    }
+    Command::Unknown
 }
 
 // A line that begins with `move`.

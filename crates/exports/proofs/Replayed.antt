@@ -84,7 +84,7 @@ pub record Going (c : Config) (j : List ℕ) (i : ℕ) (s : Record) : Type 0 whe
   pub most : i ≤ 4000
 
 module _ (c : Config) (right : config-cause c ≡ 0) (j : List ℕ) where
-  pub going-start : (s : Record) → s ≡ start-record (c .P) (c .T) (c .M) (c .B) → Going c j 0 s
+  pub going-start : (s : Record) → s ≡ start-record (c .P) (c .T) (c .M) (c .B) (c .stealing) → Going c j 0 s
   unfolding moves run
   going-start s e = record { on = session.going-start c right j s e; left = refl; most = omega arith }
 
@@ -139,7 +139,7 @@ module _ (c : Config) (right : config-cause c ≡ 0) (j : List ℕ) where
   more : (i : ℕ) (x : Record) (calls : List ℕ) → Going c j i x → i < length j / 3 → moved-at x j i .refusal ≡ 0 → Going c j (i + 1) (moved-at x j i .state)
   more i x calls g l z = going-more c right j i x g _ refl (omega arith) z
 
-  module _ (s : Record) (e : s ≡ start-record (c .P) (c .T) (c .M) (c .B)) (r : Run) (ran : r ≡ run-of s j) where
+  module _ (s : Record) (e : s ≡ start-record (c .P) (c .T) (c .M) (c .B) (c .stealing)) (r : Run) (ran : r ≡ run-of s j) where
     ends : Ends j keeps (length j / 3) more r (counted-of s j [])
     ends = rw ran (run-ends j keeps (length j / 3) more (length j / 3) 0 s [] (going-start c right j s e) (omega arith))
 

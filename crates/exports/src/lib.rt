@@ -19,6 +19,7 @@ const REFUSED: u8 = 200;
 
 // Replays moves, three bytes each, from a start table and writes the picture of the state that they lead to: 1, the number of the first refused move
 // with its place, counted from 1, or 10, else 0. Refused, no byte of the picture is written. Where no move is refused the place is 0.
+// The table has a single ready queue.
 #[no_mangle]
 pub extern "C" fn humdayeg_replay(
     p: u8,
@@ -29,17 +30,36 @@ pub extern "C" fn humdayeg_replay(
     picture: &mut [u8],
     place: &mut u32,
 ) -> u8
-    ensures number { λ r. ⌜ r ≡ replay-refusal (table p t m b) (now (moves .entry)) (length (now (picture .entry))) ⌝ }
-    ensures written { λ r. ⌜ now (picture .exit) ≡ replay-buffer (table p t m b) (now (moves .entry)) (now (picture .entry)) ⌝ }
-    ensures place { λ r. ⌜ now (place .exit) ≡ replay-place (table p t m b) (now (moves .entry)) ⌝ }
+    ensures number { λ r. ⌜ r ≡ replay-refusal (table p t m b 0) (now (moves .entry)) (length (now (picture .entry))) ⌝ }
+    ensures written { λ r. ⌜ now (picture .exit) ≡ replay-buffer (table p t m b 0) (now (moves .entry)) (now (picture .entry)) ⌝ }
+    ensures place { λ r. ⌜ now (place .exit) ≡ replay-place (table p t m b 0) (now (moves .entry)) ⌝ }
+{
+    humdayeg_replay_with(p, t, m, b, 0, moves, picture, place)
+}
+
+// The same of a table with a fifth number: 0 for a single ready queue, 1 for one for each processor.
+#[no_mangle]
+pub extern "C" fn humdayeg_replay_with(
+    p: u8,
+    t: u8,
+    m: u8,
+    b: u8,
+    stealing: u8,
+    moves: &[u8],
+    picture: &mut [u8],
+    place: &mut u32,
+) -> u8
+    ensures number { λ r. ⌜ r ≡ replay-refusal (table p t m b stealing) (now (moves .entry)) (length (now (picture .entry))) ⌝ }
+    ensures written { λ r. ⌜ now (picture .exit) ≡ replay-buffer (table p t m b stealing) (now (moves .entry)) (now (picture .entry)) ⌝ }
+    ensures place { λ r. ⌜ now (place .exit) ≡ replay-place (table p t m b stealing) (now (moves .entry)) ⌝ }
 {
     *place = 0;
-    let started = session::start(p, t, m, b);
+    let started = session::start(p, t, m, b, stealing);
     let bad = started.refusal;
     if bad != 0 {
         return bad;
     }
-    let found = replay(p, t, m, b, moves);
+    let found = replay(p, t, m, b, stealing, moves);
     *place = found.place;
     let refused = found.refusal;
     if refused != 0 {
@@ -78,7 +98,7 @@ pub extern "C" fn humdayeg_ahead(picture: &[u8], thread: u8) -> u8
 }
 
 // A class from a start table, scripts and turns (a byte each, the processor): each turn's answer and the picture after it, accepted or not, written
-// behind one another: 1, 19, 10, else 0. Refused, no byte of either buffer is written.
+// behind one another: 1, 19, 10, else 0. Refused, no byte of either buffer is written. The table has a single ready queue.
 #[no_mangle]
 pub extern "C" fn humdayeg_class(
     p: u8,
@@ -90,11 +110,31 @@ pub extern "C" fn humdayeg_class(
     answers: &mut [u8],
     pictures: &mut [u8],
 ) -> u8
-    ensures number { λ r. ⌜ r ≡ class-number (table p t m b) (now (scripts .entry)) (now (turns .entry)) (now (answers .entry)) (now (pictures .entry)) ⌝ }
-    ensures answers { λ r. ⌜ now (answers .exit) ≡ class-told (table p t m b) (now (scripts .entry)) (now (turns .entry)) (now (answers .entry)) (now (pictures .entry)) ⌝ }
-    ensures pictures { λ r. ⌜ now (pictures .exit) ≡ class-shown (table p t m b) (now (scripts .entry)) (now (turns .entry)) (now (answers .entry)) (now (pictures .entry)) ⌝ }
+    ensures number { λ r. ⌜ r ≡ class-number (table p t m b 0) (now (scripts .entry)) (now (turns .entry)) (now (answers .entry)) (now (pictures .entry)) ⌝ }
+    ensures answers { λ r. ⌜ now (answers .exit) ≡ class-told (table p t m b 0) (now (scripts .entry)) (now (turns .entry)) (now (answers .entry)) (now (pictures .entry)) ⌝ }
+    ensures pictures { λ r. ⌜ now (pictures .exit) ≡ class-shown (table p t m b 0) (now (scripts .entry)) (now (turns .entry)) (now (answers .entry)) (now (pictures .entry)) ⌝ }
 {
-    let begun = turns::start(p, t, m, b, scripts);
+    humdayeg_class_with(p, t, m, b, 0, scripts, turns, answers, pictures)
+}
+
+// The same of a table with a fifth number.
+#[no_mangle]
+pub extern "C" fn humdayeg_class_with(
+    p: u8,
+    t: u8,
+    m: u8,
+    b: u8,
+    stealing: u8,
+    scripts: &[u8],
+    turns: &[u8],
+    answers: &mut [u8],
+    pictures: &mut [u8],
+) -> u8
+    ensures number { λ r. ⌜ r ≡ class-number (table p t m b stealing) (now (scripts .entry)) (now (turns .entry)) (now (answers .entry)) (now (pictures .entry)) ⌝ }
+    ensures answers { λ r. ⌜ now (answers .exit) ≡ class-told (table p t m b stealing) (now (scripts .entry)) (now (turns .entry)) (now (answers .entry)) (now (pictures .entry)) ⌝ }
+    ensures pictures { λ r. ⌜ now (pictures .exit) ≡ class-shown (table p t m b stealing) (now (scripts .entry)) (now (turns .entry)) (now (answers .entry)) (now (pictures .entry)) ⌝ }
+{
+    let begun = turns::start(p, t, m, b, stealing, scripts);
     let bad = begun.refusal;
     if bad != 0 {
         return bad;

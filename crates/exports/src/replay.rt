@@ -16,11 +16,11 @@ pub(crate) struct Replayed {
     pub state: State,
 }
 
-pub(crate) fn replay(p: u8, t: u8, m: u8, b: u8, moves: &[u8]) -> Replayed
-    requires { ⌜ config-cause (table p t m b) ≡ 0 ⌝ }
-    ensures { λ r. ⌜ Replays (table p t m b) (now (moves .entry)) r ⌝ }
+pub(crate) fn replay(p: u8, t: u8, m: u8, b: u8, stealing: u8, moves: &[u8]) -> Replayed
+    requires { ⌜ config-cause (table p t m b stealing) ≡ 0 ⌝ }
+    ensures { λ r. ⌜ Replays (table p t m b stealing) (now (moves .entry)) r ⌝ }
 {
-    let s = State::start(p, t, m, b);
+    let s = State::start(p, t, m, b, stealing);
     let mut none = [0u16; 1];
     let done = run(s, moves, &mut none);
     let state = done.state;

@@ -23,7 +23,7 @@ fn counted(n: u64, refusal: u8) -> u64 {
 
 // The job's moves, three bytes each from byte 6 on, made from the start of its bytes 2 to 5. before: how many answers were accepted already.
 fn make_all(job: &[u8], journal: &mut [u8], before: u64) -> Made {
-    let begun = session::start(byte(job, 2), byte(job, 3), byte(job, 4), byte(job, 5));
+    let begun = session::start(byte(job, 2), byte(job, 3), byte(job, 4), byte(job, 5), 0);
     let mut session = begun.session;
     let mut accepted = before;
     for k in 2..job.len() / 3 {

@@ -9,16 +9,16 @@ use native.Mathlib.Omega.{arith}
 use native.Mathlib.Decide.{ℕ-discrete}
 use native.Mathlib.Nat.{mul-one, mul-zero}
 use lib.ListN.{length}
-use Rattle.reference.specs.Lists.{at, put, sum, is}
-use Rattle.reference.specs.State.{Token, Processor, Mutex, Life, new, live, terminated, State, Line, App, row, nobody, free-mutex, processor-at, mutex-at, life-at, same-token}
-use Rattle.reference.specs.Step.{View, Action, go, lock, trylock, unlock, yield, exit, create, act, target, view, put-back, does, created-by, ended-by, Move, action-of, next, run}
+use Rattle.reference.specs.Lists.{at, put, sum, is, occurrences}
+use Rattle.reference.specs.State.{Token, Processor, Mutex, Life, new, live, terminated, State, Line, App, row, queues, nobody, free-mutex, processor-at, mutex-at, life-at, same-token}
+use Rattle.reference.specs.Step.{View, Action, go, lock, trylock, unlock, yield, exit, create, act, target, works-on, view, put-back, does, created-by, ended-by, Move, action-of, next, run}
 use Rattle.reference.specs.Cause.{is-go, operand-fits, cause, accepted}
 use Rattle.reference.specs.Safe.{In, one-if, held}
 use Rattle.reference.proofs.Tests.{range-true}
 use Rattle.reference.proofs.Same.{same-token-exact}
-use Rattle.reference.proofs.Sums.{is-same, is-other, some, some-one, some-pos, at-put-same, at-put-other, sum-put, sum-put-zero, sum-at, sum-two, length-put, at-put, choose-by}
+use Rattle.reference.proofs.Sums.{is-same, is-other, some, some-one, some-pos, around-in, at-put-same, at-put-other, sum-put, sum-put-zero, sum-at, sum-two, length-put, at-put, choose-by}
 use Rattle.reference.proofs.Legal.{Here, legal, accepted-cons}
-use Rattle.reference.proofs.Local.{out, Table, Sound, Fit, Done, act-done, from, Allowed, Duty, duty, Stays, watch, Handled, Old, act-handled, token-processor, token-self}
+use Rattle.reference.proofs.Local.{out, Table, ProbeFits, Sound, Fit, Done, act-done, from, Allowed, Duty, duty, Stays, watch, Handled, Old, act-handled, token-processor, token-self}
 
 -- what a processor weighs in a sum over those on mutex k
 abbrev pub weighs : (Duty → ℕ) → ℕ → Processor → ℕ
@@ -61,7 +61,9 @@ pub record Good (s : State) : Type 0 where
   pub lives : length (s .lives) ≡ s .T
   pub table : (p : ℕ) → In (s .P) p → Table (s .P) (s .T) (s .M) (s .applied) (at-line s p) (processor-at s p)
   pub sound : (m : ℕ) → In (s .M) m → Sound (s .P) (s .T) (s .applied) (mutex-at s m)
-  pub ready : sum (out (s .T)) (s .ready) ≡ 0
+  pub queues : length (s .ready) ≡ queues (s .stealing) (s .P)
+  pub probe : (p : ℕ) → In (s .P) p → ProbeFits (length (s .ready)) (at-line s p) (processor-at s p .probe)
+  pub ready : sum (sum (out (s .T))) (s .ready) ≡ 0
   -- a count is the owner, those that wait and those on their way to the queue, but for an owner that is not counted yet
   pub counts : (m : ℕ) → In (s .M) m →
       mutex-at s m .count + on s (λ w. w .uncounted) m ≡ some (mutex-at s m .owner) + length (mutex-at s m .queue) + on s (λ w. w .carries) m
@@ -110,6 +112,14 @@ older h = omega arith
 
 older-sound : {P T N : ℕ} {x : Mutex} → Sound P T N x → Sound P T (suc N) x
 older-sound h = omega arith
+
+pub some-queue : (c P p : ℕ) → In P p → 1 ≤ queues c P
+some-queue zero P p r = omega arith
+some-queue (suc c) P p r = omega arith
+
+-- a processor works on a ready queue that is there
+pub works-in : (s : State) → Good s → (p : ℕ) → In (s .P) p → In (length (s .ready)) (works-on s p)
+works-in s g p r = around-in (length (s .ready)) _ (omega (arith, g .queues, some-queue (s .stealing) (s .P) p r))
 
 -- ---- one processor's step keeps the invariant
 
@@ -279,7 +289,12 @@ module _ (s : State) (g : Good s) (p m : ℕ) (rp : In (s .P) p) (early : s .app
         sound = λ k r.
             at-put (λ (k : ℕ) (x : Mutex). Sound (s .P) (s .T) (suc (s .applied)) x) (s .mutexes) m k (v′ .mutex) free-mutex (in-mutexes r)
             (λ i. d1 .sound) (λ n. older-sound (g .sound k r));
-        ready = d1 .ready;
+        queues = length-put (s .ready) (works-on s p) (v′ .ready) ∙ g .queues;
+        probe = λ q r.
+            rw (length-put (s .ready) (works-on s p) (v′ .ready))
+            (at-put (λ (q : ℕ) (c : Processor). ProbeFits (length (s .ready)) (c .position) (c .probe)) (s .processors) p q (v′ .proc) nobody (in-procs r)
+            (λ i. d1 .probe) (λ n. g .probe q r));
+        ready = omega (arith, g .ready, d1 .ready, sum-put (sum (out (s .T))) (s .ready) (works-on s p) (v′ .ready) [] (works-in s g p rp));
         counts = λ k r.
             at-put (λ (k : ℕ) (x : Mutex). x .count + on s′ (λ w. w .uncounted) k ≡ some (x .owner) + length (x .queue) + on s′ (λ w. w .carries) k) (s .mutexes) m k (v′ .mutex) free-mutex (in-mutexes r)
             (λ i. omega (arith, g .counts m (omega (arith, g .mutexes)), d1 .counts, on-m (λ w. w .uncounted) (d1 .uncounted), on-m (λ w. w .carries) (d1 .carries)))
@@ -302,6 +317,7 @@ module _ (s : State) (g : Good s) (p m : ℕ) (rp : In (s .P) p) (early : s .app
               g .census k r,
               b k r,
               d k (r .0) .census,
+              sum-put (occurrences k) (s .ready) (works-on s p) (v′ .ready) [] (works-in s g p rp),
               sum-put (in-registers k) (s .processors) p (v′ .proc) nobody (in-procs rp),
               sum-put-zero (λ (x : Mutex). sum (is k) (x .queue)) (s .mutexes) m (v′ .mutex) free-mutex (omega (arith, g .mutexes)) (d k (r .0) .idle),
             );
@@ -346,7 +362,8 @@ module _ (s : State) (g : Good s) (p : ℕ) (rp : In (s .P) p) (early : s .appli
         here = refl;
         table = g .table p rp;
         sound = sound-at m rm;
-        ready = g .ready;
+        ready = omega (arith, g .ready, sum-at (sum (out (s .T))) (s .ready) (works-on s p) [] (works-in s g p rp));
+        probe = g .probe p rp;
         handed = handed m (duty (at-line s p) .responsible) rm w n;
         holds = h;
         claims = y;

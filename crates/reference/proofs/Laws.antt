@@ -13,7 +13,7 @@ use Rattle.reference.specs.State.{Processor, Life, State, L9, U1, nobody
 use Rattle.reference.specs.Start.{Config, config-cause, first-life, start}
 use Rattle.reference.specs.Step.{Move, next, run}
 use Rattle.reference.specs.Cause.{accepted}
-use Rattle.reference.specs.History.{owns, created}
+use Rattle.reference.specs.History.{owns}
 use Rattle.reference.specs.Safe.{In, one-if, end, Owns, unborn, ended, UnderWay, Safe}
 use Rattle.reference.proofs.Sums.{is-other, some, some-le, some-pos, sum-some, choose-by}
 use Rattle.reference.proofs.Local.{Duty, duty}
@@ -24,9 +24,9 @@ use Rattle.reference.proofs.Lives.{life-history, is-new, is-over}
 
 -- ---- of a run
 
-pub sizes : (ms : List Move) (s : State) → (run s ms .P ≡ s .P) × (run s ms .T ≡ s .T) × (run s ms .M ≡ s .M)
+pub sizes : (ms : List Move) (s : State) → (run s ms .P ≡ s .P) × (run s ms .T ≡ s .T) × (run s ms .M ≡ s .M) × (run s ms .stealing ≡ s .stealing)
 unfolding run next
-sizes [] s = (refl, refl, refl)
+sizes [] s = (refl, refl, refl, refl)
 sizes (a ∷ rest) s = sizes rest (next s a)
 
 pub applied-run : (ms : List Move) (s : State) → run s ms .applied ≡ s .applied + length ms
@@ -87,10 +87,10 @@ module _ (s : State) (g : Good s) where
 -- ---- of a state that is reached
 
 pub good : (c : Config) → config-cause c ≡ 0 → (ms : List Move) → accepted (start c) ms ≡ true → Good (run (start c) ms)
-good c e ms ok = reached ms (start c) (start-good c (ranges c e .created .1)) ok
+good c e ms ok = reached ms (start c) (start-good c (ranges c e)) ok
 
 -- the sizes are those of the configuration
-pub sized : (c : Config) (ms : List Move) → (run (start c) ms .P ≡ c .P) × (run (start c) ms .T ≡ c .T) × (run (start c) ms .M ≡ c .M)
+pub sized : (c : Config) (ms : List Move) → (run (start c) ms .P ≡ c .P) × (run (start c) ms .T ≡ c .T) × (run (start c) ms .M ≡ c .M) × (run (start c) ms .stealing ≡ c .stealing)
 unfolding start
 sized c ms = sizes ms (start c)
 
@@ -110,14 +110,14 @@ module _ (c : Config) (e : config-cause c ≡ 0) (ms : List Move) (ok : accepted
   unfolding start
   owner-is m k rm rk =
       let z : eqb (mutex-at (start c) m .owner) k ≡ false = rw (mutex-start c m) (ne-eqb 0 k (omega arith)) in
-      rw z at (owner-history ms (start c) m k (start-good c (ranges c e .created .1)) ok rm rk)
+      rw z at (owner-history ms (start c) m k (start-good c (ranges c e)) ok rm rk)
 
   -- a thread is new or terminated by history where its life says so
   pub gone-is : (k : ℕ) → In (c .T) k → gone (life-at (run (start c) ms) k) ≡ one-if (unborn c ms k) + one-if (ended c ms k)
   unfolding start
   gone-is k r =
       let z = first-lives (c .B) k in
-      rw (life-start c k r, z .0, z .1) at (life-history ms (start c) k (start-good c (ranges c e .created .1)) ok r)
+      rw (life-start c k r, z .0, z .1) at (life-history ms (start c) k (start-good c (ranges c e)) ok r)
 
 pub safe : (c : Config) (ms : List Move) → config-cause c ≡ 0 → accepted (start c) ms ≡ true → Safe c ms
 safe c ms e ok =

@@ -10,6 +10,7 @@ pub mod Local
 pub mod Invariant
 pub mod Owners
 pub mod Start
+pub mod Dealt
 pub mod Lives
 pub mod Bound
 pub mod Laws
@@ -17,3 +18,5 @@ pub mod Break
 pub mod Moves
 pub mod Script
 pub mod Session
+pub mod Queues
+pub mod OneProcessor

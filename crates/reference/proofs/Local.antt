@@ -7,9 +7,10 @@ use mathlib.Core.List.{List, [], _∷_, _++_}
 use mathlib.Core.Logic.{_≢_}
 use mathlib.Core.Path.{_≡_, refl, ap, sym, subst}
 use native.Mathlib.Omega.{arith}
+use native.Mathlib.Nat.{mod-lt}
 use lib.ListN.{length, length-append}
 use Rattle.reference.specs.Lists.{sum, is, choose, in-range}
-use Rattle.reference.specs.State.{Token, Processor, Mutex, Line, App, CI2, CI3, L1, L3, L4, L6, L7, L8, L9, L10, TL1, GT1, GT3, TL3, U1, H2, H3, H5, H6, H8, Y1, Y2, Y3, C2, row, same-token}
+use Rattle.reference.specs.State.{Token, Processor, Mutex, Line, App, CI2, CI3, L1, L3, L4, L6, L7, L8, L9, L10, TL1, GT1, GT3, TL3, U1, H2, H3, H5, H6, H8, Y1, Y2, Y3, C2, row, probes, same-token}
 use Rattle.reference.specs.Step.{View, line, own-token, Action, go, lock, trylock, unlock, yield, exit, create, act, target, created-by, ended-by}
 use Rattle.reference.specs.Cause.{is-go}
 use Rattle.reference.specs.Safe.{In, one-if}
@@ -142,6 +143,11 @@ pub record Table (P T M N : ℕ) (l : Line) (r : Processor) : Type 0 where
   pub carrier : duty l .carries ≤ r .current + r .transit
   pub once : duty l .carries ≤ 1
 
+-- the look number, of r ready queues: 0 to r − 1, and 0 elsewhere than at CI2
+pub record ProbeFits (r : ℕ) (l : Line) (n : ℕ) : Type 0 where
+  pub most : n < r
+  pub zero : n ≤ r * probes l
+
 -- the ranges of a mutex; N bounds the sequence numbers
 pub record Sound (P T N : ℕ) (x : Mutex) : Type 0 where
   pub queue : sum (out T) (x .queue) ≡ 0
@@ -180,6 +186,7 @@ module _ (P T M N : ℕ) (f : ℕ → ℕ) where
     pub table : Table P T M N l (v .proc)
     pub sound : Sound P T N (v .mutex)
     pub ready : sum (out T) (v .ready) ≡ 0
+    pub probe : ProbeFits (v .queues) l (v .proc .probe)
     pub handed : some (v .mutex .owner) + some (v .mutex .token .processor) + duty l .responsible ≤ some (v .mutex .count)
     pub holds : 1 ≤ duty l .holds → v .proc .current ≡ v .mutex .owner
     pub claims : duty l .claims * one-if (same-token (v .mutex .token) (v .proc .observed)) + duty l .takes ≤ length (v .mutex .queue)
@@ -195,6 +202,7 @@ module _ (P T M N : ℕ) (f : ℕ → ℕ) where
     pub table : Table P T M (suc N) n (v′ .proc)
     pub sound : Sound P T (suc N) (v′ .mutex)
     pub ready : sum (out T) (v′ .ready) ≡ 0
+    pub probe : ProbeFits (v .queues) n (v′ .proc .probe)
     pub holds : 1 ≤ duty n .holds → (v′ .proc .current ≡ v′ .mutex .owner) × (v′ .proc .mutex ≡ m)
     pub counts : v .mutex .count + duty l .uncounted + some (v′ .mutex .owner) + length (v′ .mutex .queue) + duty n .carries ≡
         v′ .mutex .count + duty n .uncounted + some (v .mutex .owner) + length (v .mutex .queue) + duty l .carries
@@ -218,7 +226,9 @@ module _ (P T M N : ℕ) (f : ℕ → ℕ) where
   pub line-done : (l : Line) (v : View) → Fit l v → Done l (v .proc .mutex) 0 0 v (line l v)
   unfolding line
   line-done App v h = subst (λ (n : Line). Done′ App n (v .proc .mutex) 0 0 v v) (sym (h .here)) (omega arith)
-  line-done CI2 v h = if-empty-by (Done CI2 (v .proc .mutex) 0 0 v) (v .ready) (λ e. omega arith) (λ x xs e. omega (arith, taken T f e (h .ready)))
+  line-done CI2 v h =
+      if-empty-by (Done CI2 (v .proc .mutex) 0 0 v) (v .ready) (λ e. omega (arith, mod-lt (suc (v .proc .probe)) {m = v .queues} (omega arith)))
+      (λ x xs e. omega (arith, taken T f e (h .ready)))
   line-done CI3 v h = omega arith
   line-done L1 v h = if-zero-by (Done L1 (v .proc .mutex) 0 0 v) (v .mutex .count) (λ e. omega (arith, ap some e, loads v h refl)) (λ c e. omega (arith, ap some e))
   line-done L3 v h = omega arith

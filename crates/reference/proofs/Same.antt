@@ -87,9 +87,10 @@ same-processor-exact =
       only = λ r q e.
           let h = (
           same-line-exact .only (r .position) (q .position) and eqb-true (r .current) (q .current) and eqb-true (r .transit) (q .transit) and eqb-true (r .mutex) (q .mutex) and
-          same-token-exact .only (r .observed) (q .observed) and eqb-true (r .sequence) (q .sequence) and eqb-true (r .answer) (q .answer)
+          same-token-exact .only (r .observed) (q .observed) and eqb-true (r .sequence) (q .sequence) and eqb-true (r .answer) (q .answer) and
+          eqb-true (r .probe) (q .probe)
           ) e in
-          (λ i. record { position = h .0 .0 .0 .0 .0 .0 i; current = h .0 .0 .0 .0 .0 .1 i; transit = h .0 .0 .0 .0 .1 i; mutex = h .0 .0 .0 .1 i; observed = h .0 .0 .1 i; sequence = h .0 .1 i; answer = h .1 i });
+          (λ i. record { position = h .0 .0 .0 .0 .0 .0 .0 i; current = h .0 .0 .0 .0 .0 .0 .1 i; transit = h .0 .0 .0 .0 .0 .1 i; mutex = h .0 .0 .0 .0 .1 i; observed = h .0 .0 .0 .1 i; sequence = h .0 .0 .1 i; answer = h .0 .1 i; probe = h .1 i });
     }
 
 pub same-mutex-exact : Exact same-mutex
@@ -130,16 +131,17 @@ same-state-exact =
       itself = λ s.
           simp (
             eqb-self,
-            same-list-exact same-number .itself (s .ready),
+            same-list-exact (same-list-exact same-number) .itself (s .ready),
             same-list-exact same-processor-exact .itself (s .processors),
             same-list-exact same-mutex-exact .itself (s .mutexes),
             same-list-exact same-life-exact .itself (s .lives),
           );
       only = λ s e y.
           let h = (
-          eqb-true (s .P) (e .P) and eqb-true (s .T) (e .T) and eqb-true (s .M) (e .M) and same-list-exact same-number .only (s .ready) (e .ready) and
+          eqb-true (s .P) (e .P) and eqb-true (s .T) (e .T) and eqb-true (s .M) (e .M) and same-list-exact (same-list-exact same-number) .only (s .ready) (e .ready) and
           same-list-exact same-processor-exact .only (s .processors) (e .processors) and same-list-exact same-mutex-exact .only (s .mutexes) (e .mutexes) and
-          same-list-exact same-life-exact .only (s .lives) (e .lives) and eqb-true (s .applied) (e .applied)
+          same-list-exact same-life-exact .only (s .lives) (e .lives) and eqb-true (s .applied) (e .applied) and
+          eqb-true (s .stealing) (e .stealing)
           ) y in
-          (λ i. record { P = h .0 .0 .0 .0 .0 .0 .0 i; T = h .0 .0 .0 .0 .0 .0 .1 i; M = h .0 .0 .0 .0 .0 .1 i; ready = h .0 .0 .0 .0 .1 i; processors = h .0 .0 .0 .1 i; mutexes = h .0 .0 .1 i; lives = h .0 .1 i; applied = h .1 i });
+          (λ i. record { P = h .0 .0 .0 .0 .0 .0 .0 .0 i; T = h .0 .0 .0 .0 .0 .0 .0 .1 i; M = h .0 .0 .0 .0 .0 .0 .1 i; ready = h .0 .0 .0 .0 .0 .1 i; processors = h .0 .0 .0 .0 .1 i; mutexes = h .0 .0 .0 .1 i; lives = h .0 .0 .1 i; applied = h .0 .1 i; stealing = h .1 i });
     }

@@ -2,33 +2,34 @@
 -- Assumes nothing.
 use Prim.Native.Nat.{ℕ, zero, suc, _+_, _-_, _≤_, _<_}
 use mathlib.Core.Bool.{_&&_, not}
-use mathlib.Core.Path.{_≡_, refl, ap, sym}
+use mathlib.Core.Path.{_≡_, refl, ap, sym, _∙_}
 use native.Mathlib.Decide.{decLe}
 use native.Mathlib.Omega.{arith}
 use lib.Dec.{leb}
 use lib.ListN.{replicate, length-replicate, getD-replicate, List·getD-eq-default}
 use borrow.Author.Tests.{leb-true, leb-false, le-leb, not-false}
-use Rattle.reference.specs.Lists.{sum, is, choose, occurrences, in-range, tabulate}
-use Rattle.reference.specs.State.{Processor, Mutex, App, CI2, free-mutex, processor-at, mutex-at, life-at, nobody, live}
-use Rattle.reference.specs.Start.{Config, config-cause, idle-at, first-processor, first-life, itself, start}
+use Rattle.reference.specs.Lists.{sum, is, choose, occurrences, around, in-range, tabulate}
+use Rattle.reference.specs.State.{Processor, Mutex, App, CI2, queues, free-mutex, processor-at, mutex-at, life-at, nobody, live}
+use Rattle.reference.specs.Start.{Config, config-cause, idle-at, first-processor, first-life, itself, first-queue, start}
 use Rattle.reference.specs.Safe.{In}
 use Rattle.reference.proofs.Tests.{_and_, range-true, passed}
-use Rattle.reference.proofs.Sums.{is-same, is-other, some, length-tabulate, tabulate-at, sum-none, sum-one, choose-by}
-use Rattle.reference.proofs.Local.{out, in-out, Table, Duty, duty}
-use Rattle.reference.proofs.Invariant.{Good, weighs, gone, in-registers, Claims}
+use Rattle.reference.proofs.Sums.{is-same, is-other, some, length-tabulate, tabulate-at, around-in, sum-none, sum-one, sum-dealt, choose-by}
+use Rattle.reference.proofs.Local.{out, in-out, Table, ProbeFits, Duty, duty}
+use Rattle.reference.proofs.Invariant.{Good, some-queue, weighs, gone, in-registers, Claims}
 
 pub record Ranges (c : Config) : Type 0 where
   pub processors : (1 ≤ c .P) × (c .P ≤ 8)
   pub threads : (1 ≤ c .T) × (c .T ≤ 32)
   pub mutexes : (1 ≤ c .M) × (c .M ≤ 8)
   pub created : (1 ≤ c .B) × (c .B ≤ c .T)
+  pub stealing : c .stealing ≤ 1
 
 pub ranges : (c : Config) → config-cause c ≡ 0 → Ranges c
 unfolding config-cause
 ranges c e =
-    let f = range-true 1 8 (c .P) and range-true 1 32 (c .T) and range-true 1 8 (c .M) and range-true 1 (c .T) (c .B) in
-    let h = f (not-false _ (passed (not (in-range 1 8 (c .P) && in-range 1 32 (c .T) && in-range 1 8 (c .M) && in-range 1 (c .T) (c .B))) _ _ e .0)) in
-    record { processors = h .0 .0 .0; threads = h .0 .0 .1; mutexes = h .0 .1; created = h .1 }
+    let f = range-true 1 8 (c .P) and range-true 1 32 (c .T) and range-true 1 8 (c .M) and range-true 1 (c .T) (c .B) and leb-true (c .stealing) 1 in
+    let h = f (not-false _ (passed (not (in-range 1 8 (c .P) && in-range 1 32 (c .T) && in-range 1 8 (c .M) && in-range 1 (c .T) (c .B) && leb (c .stealing) 1)) _ _ e .0)) in
+    record { processors = h .0 .0 .0 .0; threads = h .0 .0 .0 .1; mutexes = h .0 .0 .1; created = h .0 .1; stealing = h .1 }
 
 module _ (c : Config) where
   pub processor-start : (p : ℕ) → In (c .P) p → processor-at (start c) p ≡ first-processor (c .B) p
@@ -77,7 +78,16 @@ unfolding sum
 queues-start k zero = refl
 queues-start k (suc n) = omega (arith, queues-start k n)
 
-module _ (c : Config) (fits : c .B ≤ c .T) where
+module _ (c : Config) (x : Ranges c) where
+  fits : c .B ≤ c .T
+  fits = x .created .1
+
+  -- the ready queues hold the threads P + 1 to B
+  ready-start : (f : ℕ → ℕ) → sum (sum f) (tabulate (first-queue c) 1 (queues (c .stealing) (c .P))) ≡ sum f (tabulate itself (suc (c .P)) (c .B - c .P))
+  ready-start f =
+      let r = queues (c .stealing) (c .P) in
+      sum-dealt f (around r) r (λ k. around-in r k (some-queue (c .stealing) (c .P) 1 (omega (arith, x .processors)))) (tabulate itself (suc (c .P)) (c .B - c .P))
+
   abbrev in-ready : ℕ → ℕ
   in-ready k = occurrences k (tabulate itself (suc (c .P)) (c .B - c .P))
 
@@ -119,13 +129,18 @@ module _ (c : Config) (fits : c .B ≤ c .T) where
         lives = length-tabulate (first-life (c .B)) 1 (c .T);
         table = λ p r. by-processor c (λ (x : Processor). Table (c .P) (c .T) (c .M) 0 (x .position) x) p r (λ h. omega arith) (omega arith);
         sound = λ m r. rw (mutex-start c m) (omega arith);
-        ready = sum-none (out (c .T)) itself (suc (c .P)) (c .B - c .P) (λ i x y. in-out (c .T) i (omega arith) (omega arith));
+        queues = length-tabulate (first-queue c) 1 (queues (c .stealing) (c .P));
+        probe = λ p r.
+            rw (length-tabulate (first-queue c) 1 (queues (c .stealing) (c .P)))
+            (by-processor c (λ (x : Processor). ProbeFits (queues (c .stealing) (c .P)) (x .position) (x .probe)) p r
+            (λ h. omega (arith, some-queue (c .stealing) (c .P) p r)) (omega (arith, some-queue (c .stealing) (c .P) p r)));
+        ready = ready-start (out (c .T)) ∙ sum-none (out (c .T)) itself (suc (c .P)) (c .B - c .P) (λ i x y. in-out (c .T) i (omega arith) (omega (arith, fits)));
         counts = λ m r.
             rw (mutex-start c m)
             (omega (arith, weigh-none (c .B) (λ w. w .uncounted) m (c .P) refl refl, weigh-none (c .B) (λ w. w .carries) m (c .P) refl refl));
         hands = λ m r. rw (mutex-start c m) (omega (arith, weigh-none (c .B) (λ w. w .responsible) m (c .P) refl refl));
         holds = λ p r. by-processor c (λ (x : Processor). 1 ≤ duty (x .position) .holds → x .current ≡ mutex-at (start c) (x .mutex) .owner) p r (λ h. omega arith) (omega arith);
-        census = λ k r. omega (arith, census-start k r, ap gone (life-start c k r), gone-start (c .B) k, queues-start k (c .M));
+        census = λ k r. omega (arith, census-start k r, ready-start (is k), ap gone (life-start c k r), gone-start (c .B) k, queues-start k (c .M));
         known-token = λ m r. rw (mutex-start c m) (omega arith);
         known-observed = λ p r. by-processor c (λ (x : Processor). x .observed .sequence ≤ processor-at (start c) (x .observed .processor) .sequence) p r (λ h. omega arith) (omega arith);
         watched = λ m r a. absurd (no-token-start m a);

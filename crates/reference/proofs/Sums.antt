@@ -1,17 +1,18 @@
 -- Sums over a list and what a store at one place does to them; the members of a table; the branches of a line.
 -- Assumes nothing.
-use Prim.Native.Nat.{ℕ, zero, suc, _+_, _≤_, _<_}
+use Prim.Native.Nat.{ℕ, zero, suc, _+_, _-_, _≤_, _<_}
 use mathlib.Core.Bool.{Bool, true, false}
 use mathlib.Core.List.{List, [], _∷_, _++_}
 use mathlib.Core.Logic.{_≢_}
-use mathlib.Core.Path.{_≡_, refl, ap, _∙_}
-use native.Mathlib.Nat.{not-suc-le-zero, le-of-suc-le-suc}
+use mathlib.Core.Path.{_≡_, refl, ap, sym, _∙_}
+use native.Mathlib.Nat.{not-suc-le-zero, le-of-suc-le-suc, mod-lt, mod-eq-of-lt}
 use native.Mathlib.Omega.{arith}
 use native.Mathlib.Decide.{ℕ-discrete}
+use lib.Dec.{eqb}
 use lib.ListN.{length, getD, set, length-set}
 use lib.Seq.{getD-set-same, getD-set-other}
 use borrow.Author.Tests.{eq-eqb, ne-eqb}
-use Rattle.reference.specs.Lists.{at, put, tabulate, sum, is, choose, if-zero, if-empty}
+use Rattle.reference.specs.Lists.{at, put, tabulate, those, sum, is, around, choose, if-zero, if-empty}
 use Rattle.reference.specs.Safe.{In}
 
 -- 0 at 0, else 1
@@ -38,6 +39,13 @@ some-one (suc n) = omega arith
 pub some-pos : (n : ℕ) → 1 ≤ n → some n ≡ 1
 some-pos zero h = omega arith
 some-pos (suc n) h = refl
+
+-- a ring's places are 1 to r, and one of these is itself
+pub around-in : (r n : ℕ) → 1 ≤ r → In r (around r n)
+around-in r n h = let l = mod-lt (n - 1) {m = r} h in (omega arith, l)
+
+pub around-self : (r n : ℕ) → In r n → around r n ≡ n
+around-self r n h = let e = mod-eq-of-lt {n = n - 1} {m = r} (omega arith) in omega arith
 
 module _ {A : Type 0} (f : A → ℕ) where
   pub sum-snoc : (l : List A) (a : A) → sum f (l ++ a ∷ []) ≡ sum f l + f a
@@ -151,6 +159,32 @@ module _ {A : Type 0} (f : A → ℕ) (g : ℕ → A) where
         | yes z ↦ omega (arith, ap (λ (i : ℕ). f (g i)) z, sum-none (suc a) n (λ i x y. h i (omega arith)))
         | no z ↦ omega (arith, h a z, sum-one (suc a) n k (omega arith) (omega arith) e h)
       ]
+
+-- two tables that weigh the same, but for one member that weighs c more
+module _ {A : Type 0} (f : A → ℕ) (g h : ℕ → A) where
+  sum-alike : (a n : ℕ) → ((i : ℕ) → a ≤ i → f (g i) ≡ f (h i)) → sum f (tabulate g a n) ≡ sum f (tabulate h a n)
+  unfolding sum tabulate
+  sum-alike a zero e = refl
+  sum-alike a (suc n) e = omega (arith, e a (omega arith), sum-alike (suc a) n (λ i x. e i (omega arith)))
+
+  sum-more : (c a n k : ℕ) → a ≤ k → k < a + n → f (g k) ≡ c + f (h k) → ((i : ℕ) → i ≢ k → f (g i) ≡ f (h i)) →
+      sum f (tabulate g a n) ≡ c + sum f (tabulate h a n)
+  unfolding sum tabulate
+  sum-more c a zero k x y e d = absurd (omega arith)
+  sum-more c a (suc n) k x y e d =
+      elim (ℕ-discrete a k) [
+        | yes z ↦ omega (arith, ap (λ (i : ℕ). f (g i)) z, ap (λ (i : ℕ). f (h i)) z, sum-alike (suc a) n (λ i x. d i (omega arith)))
+        | no z ↦ omega (arith, d a z, sum-more c (suc a) n k (omega arith) (omega arith) e d)
+      ]
+
+-- a list dealt out to r others weighs the same in all
+pub sum-dealt : (f to : ℕ → ℕ) (r : ℕ) → ((k : ℕ) → In r (to k)) → (l : List ℕ) → sum (sum f) (tabulate (λ q. those (λ k. eqb (to k) q) l) 1 r) ≡ sum f l
+unfolding sum those
+sum-dealt f to r h [] = sum-none (sum f) (λ q. []) 1 r (λ i x y. refl)
+sum-dealt f to r h (x ∷ xs) =
+    sum-more (sum f) (λ q. those (λ k. eqb (to k) q) (x ∷ xs)) (λ q. those (λ k. eqb (to k) q) xs) (f x) 1 r (to x) (h x .0) (omega (arith, h x .1))
+    (rw (eq-eqb (to x) (to x) refl)) (λ i n. rw (ne-eqb (to x) i (λ z. n (sym z)))) ∙
+    ap (λ (n : ℕ). f x + n) (sum-dealt f to r h xs)
 
 -- ---- the branches of a line, each with what holds there
 

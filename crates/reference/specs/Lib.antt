@@ -11,3 +11,5 @@ pub mod Safe
 pub mod Snapshot
 pub mod Script
 pub mod Session
+pub mod Queues
+pub mod OneProcessor

@@ -1,6 +1,6 @@
 -- Lists whose members are numbered from 1, 0 meaning none, and the branches that the definitions take.
 -- Assumes nothing.
-use Prim.Native.Nat.{ℕ, zero, suc, _+_}
+use Prim.Native.Nat.{ℕ, zero, suc, _+_, _-_, _%_}
 use mathlib.Core.Bool.{Bool, true, false, _&&_}
 use mathlib.Core.List.{List, [], _∷_, _++_}
 use lib.Dec.{eqb, leb}
@@ -55,6 +55,11 @@ module _ {ℓ} {A : Type ℓ} where
   if-empty [] a f = a
   if-empty (x ∷ xs) a f = f x xs
 
+-- those of a list that pass the test, in order
+unfoldable pub those : (ℕ → Bool) → List ℕ → List ℕ
+those test [] = []
+those test (x ∷ xs) = choose (test x) (x ∷ those test xs) (those test xs)
+
 -- 1 if the two are the same, else 0
 unfoldable pub is : ℕ → ℕ → ℕ
 is a b = choose (eqb a b) 1 0
@@ -62,6 +67,10 @@ is a b = choose (eqb a b) 1 0
 -- how often k stands in a list
 abbrev pub occurrences : ℕ → List ℕ → ℕ
 occurrences k l = sum (is k) l
+
+-- the n-th place of a ring of r, counted from 1 and going round: ((n − 1) mod r) + 1
+abbrev pub around : ℕ → ℕ → ℕ
+around r n = suc ((n - 1) % r)
 
 -- lo ≤ n ≤ hi
 abbrev pub in-range : ℕ → ℕ → ℕ → Bool

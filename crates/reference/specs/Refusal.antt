@@ -3,7 +3,7 @@
 use Prim.Native.Nat.{ℕ}
 use mathlib.Core.Bool.{Bool, true, false}
 
--- P, T, M or B outside its range
+-- P, T, M, B or the choice outside its range
 abbrev pub bad-config : ℕ
 bad-config = 1
 

@@ -18,10 +18,10 @@ In n i = (1 ≤ i) × (i ≤ n)
 abbrev pub one-if : Bool → ℕ
 one-if b = choose b 1 0
 
--- how often k stands in the ready queue, in a mutex's queue, in a current or transit register
+-- how often k stands in a ready queue, in a mutex's queue, in a current or transit register
 abbrev pub held : State → ℕ → ℕ
 held s k =
-    occurrences k (s .ready) + sum (λ (x : Mutex). occurrences k (x .queue)) (s .mutexes) +
+    sum (occurrences k) (s .ready) + sum (λ (x : Mutex). occurrences k (x .queue)) (s .mutexes) +
     sum (λ (r : Processor). is k (r .current) + is k (r .transit)) (s .processors)
 
 module _ (c : Config) (ms : List Move) where

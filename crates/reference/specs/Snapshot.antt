@@ -4,8 +4,9 @@ use Prim.Native.Nat.{ℕ, zero, suc, _/_, _%_}
 use mathlib.Core.Bool.{Bool}
 use mathlib.Core.List.{List, [], _∷_, _++_}
 use lib.Dec.{eqb, leb}
-use Rattle.reference.specs.Lists.{choose, if-empty, find, occurrences, tabulate}
-use Rattle.reference.specs.State.{State, Processor, Mutex, Life, new, live, terminated, row, mutex-at, life-at}
+use Rattle.reference.specs.Lists.{choose, if-zero, if-empty, find, occurrences, tabulate}
+use Rattle.reference.specs.State.{State, Processor, Mutex, Life, new, live, terminated, row, processor-at, mutex-at, queue-at, life-at}
+use Rattle.reference.specs.Start.{itself}
 
 -- a two-byte field, high byte first
 abbrev pub two : ℕ → List ℕ
@@ -23,7 +24,8 @@ behind k (x ∷ rest) = choose (eqb x k) (first rest) (behind k rest)
 abbrev pub stands-in : ℕ → List ℕ → Bool
 stands-in k q = leb 1 (occurrences k q)
 
--- status 0 new (unborn), 1 ready, 2 waiting, 3 current (loaded), 4 transit (hand), 5 terminated (ended); its mutex or processor, else 0; next in the queue
+-- status 0 new (unborn), 1 ready, 2 waiting, 3 current (loaded), 4 transit (hand), 5 terminated (ended); its mutex or processor, else 0; next in the queue.
+-- Where there is a ready queue for each processor, a ready thread's processor is its queue's.
 pub record Entry : Type 0 where
   pub status : ℕ
   pub holder : ℕ
@@ -45,20 +47,23 @@ or-else (suc n) made later = made (suc n)
 
 unfoldable pub thread-entry : State → ℕ → Entry
 thread-entry s k =
-    choose (stands-in k (s .ready)) (entry 1 0 (behind k (s .ready)))
+    or-else (find (stands-in k) (s .ready)) (λ q. entry 1 (if-zero (s .stealing) 0 q) (behind k (queue-at s q)))
     (or-else (find (λ (x : Mutex). stands-in k (x .queue)) (s .mutexes)) (λ m. entry 2 m (behind k (mutex-at s m .queue)))
     (or-else (find (λ (r : Processor). eqb (r .current) k) (s .processors)) (λ p. entry 3 p 0)
     (or-else (find (λ (r : Processor). eqb (r .transit) k) (s .processors)) (λ p. entry 4 p 0)
     (unheld (life-at s k)))))
 
--- header, 8 bytes: P, T, M, first of the ready chain, standing moves (2)
+-- header, 8 bytes: P, T, M, first of the single ready chain, standing moves (2), zero, choice
 abbrev pub header-bytes : State → List ℕ
-header-bytes s = s .P ∷ s .T ∷ s .M ∷ first (s .ready) ∷ two (s .applied) ++ 0 ∷ 0 ∷ []
+header-bytes s = s .P ∷ s .T ∷ s .M ∷ if-zero (s .stealing) (first (queue-at s 1)) 0 ∷ two (s .applied) ++ 0 ∷ s .stealing ∷ []
 
--- 12 bytes: position, loaded, hand, mutex, seen processor, zero, seen rank (2), own rank (2), answer, zero
-abbrev pub processor-bytes : Processor → List ℕ
-processor-bytes r =
-    row (r .position) .number ∷ r .current ∷ r .transit ∷ r .mutex ∷ r .observed .processor ∷ 0 ∷ two (r .observed .sequence) ++ two (r .sequence) ++ r .answer ∷ 0 ∷ []
+-- 12 bytes: position, loaded, hand, mutex, seen processor, look number, seen rank (2), own rank (2), answer, first of its own ready chain
+abbrev pub processor-bytes : Processor → ℕ → List ℕ
+processor-bytes r n =
+    row (r .position) .number ∷ r .current ∷ r .transit ∷ r .mutex ∷ r .observed .processor ∷ r .probe ∷ two (r .observed .sequence) ++ two (r .sequence) ++ r .answer ∷ n ∷ []
+
+abbrev pub processor-record : State → ℕ → List ℕ
+processor-record s p = processor-bytes (processor-at s p) (if-zero (s .stealing) 0 (first (queue-at s p)))
 
 -- 8 bytes: count, first of chain, owner, token processor, token rank (2)
 abbrev pub mutex-bytes : Mutex → List ℕ
@@ -75,5 +80,5 @@ concat f (x ∷ rest) = f x ++ concat f rest
 -- header, P processor records, M mutex records, T thread records
 unfoldable pub picture : State → List ℕ
 picture s =
-    header-bytes s ++ concat processor-bytes (s .processors) ++ concat mutex-bytes (s .mutexes) ++
+    header-bytes s ++ concat (processor-record s) (tabulate itself 1 (s .P)) ++ concat mutex-bytes (s .mutexes) ++
     concat entry-bytes (tabulate (thread-entry s) 1 (s .T))

@@ -5,7 +5,7 @@ use mathlib.Core.Bool.{Bool, _&&_, true, false}
 use mathlib.Core.List.{List, [], _∷_}
 use lib.Dec.{eqb}
 use lib.ListN.{getD}
-use Rattle.reference.specs.Lists.{at, same-list}
+use Rattle.reference.specs.Lists.{at, choose, if-zero, same-list}
 
 -- a token is a processor and a sequence number (document 01: a rank); (0, 0) is none
 pub record Token : Type 0 where
@@ -16,7 +16,8 @@ pub record Token : Type 0 where
 pub data Line : Type 0 where
   App CI2 CI3 L1 L3 L4 L6 L7 L8 L9 L10 TL1 GT1 GT3 TL3 U1 H2 H3 H5 H6 H8 Y1 Y2 Y3 C2 : Line
 
--- current: the loaded thread; transit: the hand, a thread in transit; observed: the seen token; sequence: its own rank
+-- current: the loaded thread; transit: the hand, a thread in transit; observed: the seen token; sequence: its own rank;
+-- probe: the look number (document 02, No. 13), which CI2 alone holds
 pub record Processor : Type 0 where
   pub position : Line
   pub current : ℕ
@@ -25,6 +26,7 @@ pub record Processor : Type 0 where
   pub observed : Token
   pub sequence : ℕ
   pub answer : ℕ
+  pub probe : ℕ
 
 pub record Mutex : Type 0 where
   pub count : ℕ
@@ -36,23 +38,29 @@ pub record Mutex : Type 0 where
 pub data Life : Type 0 where
   new live terminated : Life
 
--- P, T, M: how many processors, threads and mutexes; ready: the ready queue; applied: how many moves stand
+-- P, T, M: how many processors, threads and mutexes; stealing: the choice of ready queues, 0 a single one, 1 one for each processor, who steal from each other;
+-- ready: the ready queues; applied: how many moves stand
 pub record State : Type 0 where
   pub P : ℕ
   pub T : ℕ
   pub M : ℕ
-  pub ready : List ℕ
+  pub stealing : ℕ
+  pub ready : List (List ℕ)
   pub processors : List Processor
   pub mutexes : List Mutex
   pub lives : List Life
   pub applied : ℕ
+
+-- how many ready queues P processors have by the choice: one for all, or one for each
+abbrev pub queues : ℕ → ℕ → ℕ
+queues stealing P = if-zero stealing 1 P
 
 abbrev pub no-token : Token
 no-token = record { processor = 0; sequence = 0 }
 
 -- what is read where there is no such processor, and no such mutex
 abbrev pub nobody : Processor
-nobody = record { position = App; current = 0; transit = 0; mutex = 0; observed = no-token; sequence = 0; answer = 0 }
+nobody = record { position = App; current = 0; transit = 0; mutex = 0; observed = no-token; sequence = 0; answer = 0; probe = 0 }
 
 abbrev pub free-mutex : Mutex
 free-mutex = record { count = 0; queue = []; owner = 0; token = no-token }
@@ -62,6 +70,9 @@ processor-at s p = at (s .processors) p nobody
 
 abbrev pub mutex-at : State → ℕ → Mutex
 mutex-at s m = at (s .mutexes) m free-mutex
+
+abbrev pub queue-at : State → ℕ → List ℕ
+queue-at s q = at (s .ready) q []
 
 abbrev pub life-at : State → ℕ → Life
 life-at s k = at (s .lives) k live
@@ -117,13 +128,17 @@ line-of n = getD lines n App
 abbrev pub same-line : Line → Line → Bool
 same-line l n = eqb (row l .number) (row n .number)
 
+-- CI2 alone holds a look number (1); elsewhere it is zero (0)
+abbrev pub probes : Line → ℕ
+probes l = choose (same-line l CI2) 1 0
+
 abbrev pub same-token : Token → Token → Bool
 same-token t u = eqb (t .processor) (u .processor) && eqb (t .sequence) (u .sequence)
 
 abbrev pub same-processor : Processor → Processor → Bool
 same-processor r q =
     same-line (r .position) (q .position) && eqb (r .current) (q .current) && eqb (r .transit) (q .transit) && eqb (r .mutex) (q .mutex) &&
-    same-token (r .observed) (q .observed) && eqb (r .sequence) (q .sequence) && eqb (r .answer) (q .answer)
+    same-token (r .observed) (q .observed) && eqb (r .sequence) (q .sequence) && eqb (r .answer) (q .answer) && eqb (r .probe) (q .probe)
 
 abbrev pub same-mutex : Mutex → Mutex → Bool
 same-mutex x y =
@@ -142,6 +157,6 @@ same-life terminated terminated = true
 
 unfoldable pub same-state : State → State → Bool
 same-state s e =
-    eqb (s .P) (e .P) && eqb (s .T) (e .T) && eqb (s .M) (e .M) && same-list eqb (s .ready) (e .ready) &&
+    eqb (s .P) (e .P) && eqb (s .T) (e .T) && eqb (s .M) (e .M) && same-list (same-list eqb) (s .ready) (e .ready) &&
     same-list same-processor (s .processors) (e .processors) && same-list same-mutex (s .mutexes) (e .mutexes) &&
-    same-list same-life (s .lives) (e .lives) && eqb (s .applied) (e .applied)
+    same-list same-life (s .lives) (e .lives) && eqb (s .applied) (e .applied) && eqb (s .stealing) (e .stealing)

@@ -1,29 +1,30 @@
--- "Moves": what an accepted move gives. A move sees one processor, the mutex that it works on and the ready queue (a View), and what it makes of these is put back,
+-- "Moves": what an accepted move gives. A move sees one processor, the mutex and the ready queue that it works on (a View), and what it makes of these is put back,
 -- so that nothing else changes. Each line is document 01's, read from left to right.
 -- Assumes nothing.
-use Prim.Native.Nat.{ℕ, suc, _-_}
+use Prim.Native.Nat.{ℕ, suc, _+_, _-_, _*_, _%_}
 use mathlib.Core.List.{List, [], _∷_, _++_}
-use lib.ListN.{getD}
-use Rattle.reference.specs.Lists.{put, choose, if-zero, if-empty}
-use Rattle.reference.specs.State.{Token, Processor, Mutex, live, terminated, State, Line, App, CI2, CI3, L1, L3, L4, L6, L7, L8, L9, L10, TL1, GT1, GT3, TL3, U1, H2, H3, H5, H6, H8, Y1, Y2, Y3, C2, row, no-token, same-token, processor-at, mutex-at}
+use lib.ListN.{length, getD}
+use Rattle.reference.specs.Lists.{put, choose, if-zero, if-empty, around}
+use Rattle.reference.specs.State.{Token, Processor, Mutex, live, terminated, State, Line, App, CI2, CI3, L1, L3, L4, L6, L7, L8, L9, L10, TL1, GT1, GT3, TL3, U1, H2, H3, H5, H6, H8, Y1, Y2, Y3, C2, row, probes, no-token, same-token, processor-at, mutex-at, queue-at}
 
--- self: the processor's number; proc: its registers; mutex: the mutex m; ready: the ready queue
+-- self: the processor's number; proc: its registers; mutex: the mutex m; ready: the ready queue that it works on; queues: how many of these there are
 pub record View : Type 0 where
   pub self : ℕ
   pub proc : Processor
   pub mutex : Mutex
   pub ready : List ℕ
+  pub queues : ℕ
 
 -- ---- the parts of a view that a line changes
 
 abbrev pub with-proc : Processor → View → View
-with-proc r v = record { self = v .self; proc = r; mutex = v .mutex; ready = v .ready }
+with-proc r v = record { self = v .self; proc = r; mutex = v .mutex; ready = v .ready; queues = v .queues }
 
 abbrev pub with-mutex : Mutex → View → View
-with-mutex x v = record { self = v .self; proc = v .proc; mutex = x; ready = v .ready }
+with-mutex x v = record { self = v .self; proc = v .proc; mutex = x; ready = v .ready; queues = v .queues }
 
 abbrev pub with-ready : List ℕ → View → View
-with-ready q v = record { self = v .self; proc = v .proc; mutex = v .mutex; ready = q }
+with-ready q v = record { self = v .self; proc = v .proc; mutex = v .mutex; ready = q; queues = v .queues }
 
 -- the current and the transit register
 abbrev pub threads : ℕ → ℕ → View → View
@@ -37,6 +38,7 @@ threads c t v =
       observed = v .proc .observed;
       sequence = v .proc .sequence;
       answer = v .proc .answer;
+      probe = v .proc .probe;
     })
     v
 
@@ -51,6 +53,7 @@ observe t v =
       observed = t;
       sequence = v .proc .sequence;
       answer = v .proc .answer;
+      probe = v .proc .probe;
     })
     v
 
@@ -65,6 +68,7 @@ sequenced n v =
       observed = v .proc .observed;
       sequence = n;
       answer = v .proc .answer;
+      probe = v .proc .probe;
     })
     v
 
@@ -79,6 +83,22 @@ answers n v =
       observed = v .proc .observed;
       sequence = v .proc .sequence;
       answer = n;
+      probe = v .proc .probe;
+    })
+    v
+
+abbrev pub probing : ℕ → View → View
+probing n v =
+    with-proc
+    (record {
+      position = v .proc .position;
+      current = v .proc .current;
+      transit = v .proc .transit;
+      mutex = v .proc .mutex;
+      observed = v .proc .observed;
+      sequence = v .proc .sequence;
+      answer = v .proc .answer;
+      probe = n;
     })
     v
 
@@ -140,6 +160,7 @@ goto l v =
       observed = kept (row l .observed) (v .proc .observed) no-token;
       sequence = v .proc .sequence;
       answer = v .proc .answer;
+      probe = v .proc .probe;
     })
     v
 
@@ -148,8 +169,8 @@ goto l v =
 unfoldable pub line : Line → View → View
 -- App: go is refused there.
 line App v = v
--- CI2: ready queue empty: stay. Else its first goes to the hand; CI3.
-line CI2 v = if-empty (v .ready) (goto CI2 v) (λ x rest. goto CI3 (carry x (with-ready rest v)))
+-- CI2: ready queue empty: stay, and one is added to the look number, going round (of a single queue it stays 0). Else its first goes to the hand, the look number is 0; CI3.
+line CI2 v = if-empty (v .ready) (goto CI2 (probing (suc (v .proc .probe) % v .queues) v)) (λ x rest. goto CI3 (probing 0 (carry x (with-ready rest v))))
 -- CI3: hand is loaded; App.
 line CI3 v = goto App (load v)
 -- L1: count +1. Was 0: loaded thread owns m; App. Else L3.
@@ -229,6 +250,7 @@ calls m v =
       observed = v .proc .observed;
       sequence = v .proc .sequence;
       answer = 0;
+      probe = v .proc .probe;
     })
     v
 
@@ -274,9 +296,15 @@ ended-by create k = 0
 
 -- ---- a move on the whole state
 
+-- the ready queue that processor p works on: its own, and at CI2 the one that is the look number of places after it, going round.
+-- Of a single queue it is that one.
+abbrev pub works-on : State → ℕ → ℕ
+works-on s p = around (length (s .ready)) (p + probes (processor-at s p .position) * processor-at s p .probe)
+
 -- what processor p sees of the state, and of mutex m
 abbrev pub view : State → ℕ → ℕ → View
-view s p m = record { self = p; proc = processor-at s p; mutex = mutex-at s m; ready = s .ready }
+view s p m =
+    record { self = p; proc = processor-at s p; mutex = mutex-at s m; ready = queue-at s (works-on s p); queues = length (s .ready) }
 
 -- the state with a view put back; thread i is live from here on, thread j terminated
 abbrev pub put-back : State → ℕ → ℕ → ℕ → ℕ → View → State
@@ -285,7 +313,8 @@ put-back s p m i j v =
       P = s .P;
       T = s .T;
       M = s .M;
-      ready = v .ready;
+      stealing = s .stealing;
+      ready = put (s .ready) (works-on s p) (v .ready);
       processors = put (s .processors) p (v .proc);
       mutexes = put (s .mutexes) m (v .mutex);
       lives = put (put (s .lives) i live) j terminated;

@@ -1,19 +1,22 @@
 -- The chain check is rule 13: the bits set are the threads met so far, and a thread is met twice exactly if its bit is set.
 -- Assumes nothing.
-use Prim.Native.Nat.{ℕ, zero, suc, _+_, _≤_, _<_}
-use mathlib.Core.Path.{_≡_, refl, sym, _∙_}
+use Prim.Native.Nat.{ℕ, zero, suc, _+_, _-_, _≤_, _<_}
+use mathlib.Core.Path.{_≡_, refl, ap, sym, subst, _∙_}
 use mathlib.Core.Bool.{Bool, true, false, _&&_, _||_, not}
 use mathlib.Core.List.{List, [], _∷_}
-use mathlib.Core.Logic.{⊎-elim}
-use native.Mathlib.Decide.{decLe}
+use mathlib.Core.Logic.{_⊎_, inl, inr, ⊎-elim}
+use native.Mathlib.Decide.{ℕ-discrete, decLe}
 use native.Mathlib.Omega.{arith}
-use borrow.Author.Tests.{eqb-true, eq-eqb, ne-eqb, not-true}
-use lib.Dec.{eqb, eqb·suc-zero}
+use borrow.Author.Tests.{eqb-true, eq-eqb, leb-true, le-leb, not-true}
+use lib.Dec.{eqb, leb}
 use Rattle.reference.specs.Lists.{choose, in-range, each}
 use Rattle.reference.specs.Snapshot.{stands-in}
 use Rattle.reference.proofs.Tests.{both, both-left, both-right, range-true, true-range}
 use Rattle.state.specs.declared.Thread.{Thread}
 use Rattle.state.specs.Record.{chain}
+use Rattle.state.specs.Association.{queued-as}
+use Rattle.state.proofs.Numbers.{stands, number-one, mutex-as, ready-as}
+use Rattle.reference.specs.Safe.{In}
 use Rattle.state.specs.Rules.{every, no-twice, placed-in, met, chain-ok, chains-in}
 use Rattle.rules.specs.declared.chain.Walked.{Walked}
 use Rattle.rules.specs.Walk.{has-bit, with-bit, walked, walk-from, walk-queues, queued, none-missed}
@@ -35,28 +38,61 @@ bits-with met k l h b j = has-with met k j h ∙ rw (b j) (sym (stands-cons j k 
 -- a thread is placed in one queue at most
 pub placed-once : (x : Thread) (q r : ℕ) → placed-in x q ≡ true → placed-in x r ≡ true → q ≡ r
 placed-once x q r h g =
-    sym (eqb-true (x .holder) q (both-right (eqb (x .status) (choose (eqb q 0) 1 2)) (eqb (x .holder) q) h)) ∙
-    eqb-true (x .holder) r (both-right (eqb (x .status) (choose (eqb r 0) 1 2)) (eqb (x .holder) r) g)
+    let a : Thread = queued-as q 0 in
+    let b : Thread = queued-as r 0 in
+    number-one q 0 r 0
+    (sym (eqb-true (x .status) (a .status) (both-left (eqb (x .status) (a .status)) (eqb (x .holder) (a .holder)) h)) ∙
+    eqb-true (x .status) (b .status) (both-left (eqb (x .status) (b .status)) (eqb (x .holder) (b .holder)) g))
+    (sym (eqb-true (x .holder) (a .holder) (both-right (eqb (x .status) (a .status)) (eqb (x .holder) (a .holder)) h)) ∙
+    eqb-true (x .holder) (b .holder) (both-right (eqb (x .status) (b .status)) (eqb (x .holder) (b .holder)) g))
 
--- to be placed in one of the queues 0 to m, and to be placed in a queue of that number
-pub placed-queued : (m q : ℕ) (x : Thread) → q ≤ m → placed-in x q ≡ true → queued m x ≡ true
-placed-queued m zero x h e = either-left (eqb (x .status) 1 && eqb (x .holder) 0) (eqb (x .status) 2 && in-range 1 m (x .holder)) e
-placed-queued m (suc q) x h e =
-    let f : eqb (x .status) 2 && eqb (x .holder) (suc q) ≡ true = rw (eqb·suc-zero q) at e in
-    let g : x .holder ≡ suc q = eqb-true (x .holder) (suc q) (both-right (eqb (x .status) 2) (eqb (x .holder) (suc q)) f) in
-    either-right (eqb (x .status) 1 && eqb (x .holder) 0) (eqb (x .status) 2 && in-range 1 m (x .holder))
-    (both (both-left (eqb (x .status) 2) (eqb (x .holder) (suc q)) f) (true-range 1 m (x .holder) (omega arith) (omega arith)))
+-- the status and the holder of a thread of one of the 17 queues
+kinds : (q : ℕ) → q ≤ 16 → ((queued-as q 0 .status ≡ 1) × (queued-as q 0 .holder ≤ 8)) ⊎ ((queued-as q 0 .status ≡ 2) × In 8 (queued-as q 0 .holder))
+kinds q l =
+    elim (ℕ-discrete q 0) [
+      | yes z ↦ rw z (inl (refl, omega arith))
+      | no z ↦
+          elim (decLe q 8) [
+            | yes u ↦ let e = mutex-as q 0 (omega arith) in inr (ap (λ (t : Thread). t .status) e, subst (λ (t : Thread). In 8 (t .holder)) (sym e) (omega arith))
+            | no u ↦
+                let o : 8 + (q - 8) ≡ q = omega arith in
+                let e = ap (λ (n : ℕ). queued-as n 0) (sym o) ∙ ready-as 1 (q - 8) 0 (omega arith) in
+                inl (ap (λ (t : Thread). t .status) e, subst (λ (t : Thread). t .holder ≤ 8) (sym e) (omega arith))
+          ]
+    ]
 
-pub queued-placed : (m : ℕ) (x : Thread) → queued m x ≡ true → (q : ℕ) × (q ≤ m) × (placed-in x q ≡ true)
-queued-placed m x h =
-    ⊎-elim (λ e. (0, omega arith, e)) there
-    (either (eqb (x .status) 1 && eqb (x .holder) 0) (eqb (x .status) 2 && in-range 1 m (x .holder)) h)
+-- to be placed in one of the queues, and to be placed in a queue of that number
+pub placed-queued : (q : ℕ) (x : Thread) → q ≤ 16 → placed-in x q ≡ true → queued x ≡ true
+placed-queued q x l e =
+    let a : Thread = queued-as q 0 in
+    let s : x .status ≡ a .status = eqb-true (x .status) (a .status) (both-left (eqb (x .status) (a .status)) (eqb (x .holder) (a .holder)) e) in
+    let h : x .holder ≡ a .holder = eqb-true (x .holder) (a .holder) (both-right (eqb (x .status) (a .status)) (eqb (x .holder) (a .holder)) e) in
+    ⊎-elim
+    (λ w. either-left (eqb (x .status) 1 && leb (x .holder) 8) (eqb (x .status) 2 && in-range 1 8 (x .holder)) (both (eq-eqb (x .status) 1 (s ∙ w .0)) (le-leb (x .holder) 8 (omega arith))))
+    (λ w. either-right (eqb (x .status) 1 && leb (x .holder) 8) (eqb (x .status) 2 && in-range 1 8 (x .holder)) (both (eq-eqb (x .status) 2 (s ∙ w .0)) (true-range 1 8 (x .holder) (omega arith) (omega arith))))
+    (kinds q l)
+
+as-placed : (x : Thread) (q s h : ℕ) → queued-as q 0 ≡ stands s h 0 → x .status ≡ s → x .holder ≡ h → placed-in x q ≡ true
+as-placed x q s h e a b =
+    both (eq-eqb (x .status) (queued-as q 0 .status) (a ∙ sym (ap (λ (t : Thread). t .status) e))) (eq-eqb (x .holder) (queued-as q 0 .holder) (b ∙ sym (ap (λ (t : Thread). t .holder) e)))
+
+pub queued-placed : (x : Thread) → queued x ≡ true → (q : ℕ) × (q ≤ 16) × (placed-in x q ≡ true)
+queued-placed x h =
+    ⊎-elim here there (either (eqb (x .status) 1 && leb (x .holder) 8) (eqb (x .status) 2 && in-range 1 8 (x .holder)) h)
   where
-    there : eqb (x .status) 2 && in-range 1 m (x .holder) ≡ true → (q : ℕ) × (q ≤ m) × (placed-in x q ≡ true)
+    here : eqb (x .status) 1 && leb (x .holder) 8 ≡ true → (q : ℕ) × (q ≤ 16) × (placed-in x q ≡ true)
+    here e =
+        let s : x .status ≡ 1 = eqb-true (x .status) 1 (both-left (eqb (x .status) 1) (leb (x .holder) 8) e) in
+        let l : x .holder ≤ 8 = leb-true (x .holder) 8 (both-right (eqb (x .status) 1) (leb (x .holder) 8) e) in
+        elim (ℕ-discrete (x .holder) 0) [
+          | yes z ↦ (0, omega arith, as-placed x 0 1 0 refl s z)
+          | no z ↦ (8 + x .holder, omega arith, as-placed x (8 + x .holder) 1 (x .holder) (ready-as 1 (x .holder) 0 (omega arith)) s refl)
+        ]
+
+    there : eqb (x .status) 2 && in-range 1 8 (x .holder) ≡ true → (q : ℕ) × (q ≤ 16) × (placed-in x q ≡ true)
     there e =
-        let r = range-true 1 m (x .holder) (both-right (eqb (x .status) 2) (in-range 1 m (x .holder)) e) in
-        let z : eqb (x .holder) 0 ≡ false = ne-eqb (x .holder) 0 (λ i. omega arith) in
-        (x .holder, r .1, rw z (both (both-left (eqb (x .status) 2) (in-range 1 m (x .holder)) e) (eq-eqb (x .holder) (x .holder) refl)))
+        let r = range-true 1 8 (x .holder) (both-right (eqb (x .status) 2) (in-range 1 8 (x .holder)) e) in
+        (x .holder, omega arith, as-placed x (x .holder) 2 (x .holder) (mutex-as (x .holder) 0 r) (eqb-true (x .status) 2 (both-left (eqb (x .status) 2) (in-range 1 8 (x .holder)) e)) refl)
 
 module _ (thread : ℕ → Thread) (small : (k q : ℕ) → placed-in (thread k) q ≡ true → k < 64) where
   abbrev placed : ℕ → ℕ → Bool
@@ -171,46 +207,46 @@ module _ (thread : ℕ → Thread) (small : (k q : ℕ) → placed-in (thread k)
 
     -- ---- the rule
 
-    module _ (m t : ℕ) where
+    module _ (t : ℕ) where
       abbrev walks : Walked
-      walks = walk-queues thread first m
+      walks = walk-queues thread first 16
 
       -- queue q misses thread k in no case
       abbrev kept : ℕ → ℕ → Bool
       kept q k = not (placed q k) || stands-in k (met-in q)
 
       abbrev found : ℕ → Bool
-      found k = not (queued m (thread k)) || has-bit (walks .met) k
+      found k = not (queued (thread k)) || has-bit (walks .met) k
 
       -- from the check to the rule at queue q
-      to-rule : walks .ok ≡ true → none-missed thread (walks .met) m t ≡ true → (q : ℕ) → q ≤ m → chain-ok thread t q (first q) ≡ true
+      to-rule : walks .ok ≡ true → none-missed thread (walks .met) t ≡ true → (q : ℕ) → q ≤ 16 → chain-ok thread t q (first q) ≡ true
       unfolding chain-ok
       to-rule e n q h =
-          let r = queues-true m e in
+          let r = queues-true 16 e in
           let g : Good q = r .0 q h in
           both (both (g .once) (g .placed))
           (each-all (kept q) 1 t (λ k lo hi. implies (placed q k) (stands-in k (met-in q)) (λ p.
-          let b : has-bit (walks .met) k ≡ true = implied (queued m (thread k)) (has-bit (walks .met) k) (each-at found 1 t n k lo hi) (placed-queued m q (thread k) h p) in
-          let s = by-in m k (sym (r .1 k) ∙ b) in
+          let b : has-bit (walks .met) k ≡ true = implied (queued (thread k)) (has-bit (walks .met) k) (each-at found 1 t n k lo hi) (placed-queued q (thread k) h p) in
+          let s = by-in 16 k (sym (r .1 k) ∙ b) in
           let i : s .0 ≡ q = placed-once (thread k) (s .0) q (every-at (placed (s .0)) (met-in (s .0)) (r .0 (s .0) (s .1) .placed) k (s .2)) p in
           rw i at (s .2))))
 
       -- and back, from the rule at each queue
-      from-rule : ((q : ℕ) → q ≤ m → chain-ok thread t q (first q) ≡ true) → walks .ok && none-missed thread (walks .met) m t ≡ true
+      from-rule : ((q : ℕ) → q ≤ 16 → chain-ok thread t q (first q) ≡ true) → walks .ok && none-missed thread (walks .met) t ≡ true
       unfolding chain-ok
       from-rule f =
-          let e : walks .ok ≡ true = queues-good m (λ q h. let o = both-left (no-twice (met-in q) && every (placed q) (met-in q)) (each (kept q) 1 t) (f q h) in
+          let e : walks .ok ≡ true = queues-good 16 (λ q h. let o = both-left (no-twice (met-in q) && every (placed q) (met-in q)) (each (kept q) 1 t) (f q h) in
           record { placed = both-right (no-twice (met-in q)) (every (placed q) (met-in q)) o; once = both-left (no-twice (met-in q)) (every (placed q) (met-in q)) o; apart = λ j s. stands-none j })
           in
-          both e (each-all found 1 t (λ k lo hi. implies (queued m (thread k)) (has-bit (walks .met) k) (λ p.
-          let r = queued-placed m (thread k) p in
+          both e (each-all found 1 t (λ k lo hi. implies (queued (thread k)) (has-bit (walks .met) k) (λ p.
+          let r = queued-placed (thread k) p in
           let o = both-right (no-twice (met-in (r .0)) && every (placed (r .0)) (met-in (r .0))) (each (kept (r .0)) 1 t) (f (r .0) (r .1)) in
           let s : stands-in k (met-in (r .0)) ≡ true = implied (placed (r .0) k) (stands-in k (met-in (r .0))) (each-at (kept (r .0)) 1 t o k lo hi) (r .2) in
-          queues-true m e .1 k ∙ in-by m (r .0) k (r .1) s)))
+          queues-true 16 e .1 k ∙ in-by 16 (r .0) k (r .1) s)))
 
       -- the check is the rule, on all inputs
-      pub check-is-rule : walks .ok && none-missed thread (walks .met) m t ≡ chains-in thread first m t
+      pub check-is-rule : walks .ok && none-missed thread (walks .met) t ≡ chains-in thread first t
       check-is-rule =
-          same-tests (walks .ok && none-missed thread (walks .met) m t) (chains-in thread first m t)
-          (λ e. each-all (λ q. chain-ok thread t q (first q)) 0 (m + 1) (λ q lo hi. to-rule (both-left (walks .ok) (none-missed thread (walks .met) m t) e) (both-right (walks .ok) (none-missed thread (walks .met) m t) e) q (omega arith)))
-          (λ e. from-rule (λ q h. each-at (λ i. chain-ok thread t i (first i)) 0 (m + 1) e q (omega arith) (omega arith)))
+          same-tests (walks .ok && none-missed thread (walks .met) t) (chains-in thread first t)
+          (λ e. each-all (λ q. chain-ok thread t q (first q)) 0 17 (λ q lo hi. to-rule (both-left (walks .ok) (none-missed thread (walks .met) t) e) (both-right (walks .ok) (none-missed thread (walks .met) t) e) q (omega arith)))
+          (λ e. from-rule (λ q h. each-at (λ i. chain-ok thread t i (first i)) 0 17 e q (omega arith) (omega arith)))

@@ -15,6 +15,7 @@ use Rattle.reference.specs.Snapshot.{stands-in}
 use Rattle.reference.proofs.Tests.{range-true, true-range}
 use Rattle.state.specs.declared.Thread.{Thread}
 use Rattle.state.specs.Record.{zero-thread, thread-in, chain}
+use Rattle.state.specs.Association.{queued-as}
 use Rattle.state.specs.Rules.{every, placed-in, met, chain-ok, chains-in}
 use Rattle.rules.specs.Bytes.{thread-in-bytes}
 use Rattle.rules.specs.Walk.{write-thread, record-bytes}
@@ -25,9 +26,9 @@ use Rattle.rules.proofs.Steps.{bytes-length}
 -- ---- only threads 1 to 32 can be placed
 
 unplaced : (q : ℕ) → placed-in zero-thread q ≡ false
-unplaced q = go (eqb q 0)
+unplaced q = go (in-range 1 8 q)
   where
-    go : (b : Bool) → eqb 0 (choose b 1 2) && eqb 0 q ≡ false
+    go : (b : Bool) → eqb 0 (choose b 2 1) && eqb 0 (queued-as q 0 .holder) ≡ false
     go true = refl
     go false = refl
 
@@ -109,5 +110,5 @@ module _ (f g : ℕ → Thread) (same : (k : ℕ) → 1 ≤ k → f k ≡ g k) w
   chain-ok-agree t q first =
       rw (chain-agree 33 first, every-agree q 33 first, each-agree (λ k. not (placed-in (f k) q) || stands-in k (met g first)) (λ k. not (placed-in (g k) q) || stands-in k (met g first)) 1 t (λ k h. rw (same k h)))
 
-  pub chains-agree : (first : ℕ → ℕ) (m t : ℕ) → chains-in f first m t ≡ chains-in g first m t
-  chains-agree first m t = each-agree (λ q. chain-ok f t q (first q)) (λ q. chain-ok g t q (first q)) 0 (m + 1) (λ q h. chain-ok-agree t q (first q))
+  pub chains-agree : (first : ℕ → ℕ) (t : ℕ) → chains-in f first t ≡ chains-in g first t
+  chains-agree first t = each-agree (λ q. chain-ok f t q (first q)) (λ q. chain-ok g t q (first q)) 0 17 (λ q h. chain-ok-agree t q (first q))

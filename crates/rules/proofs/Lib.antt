@@ -7,3 +7,4 @@ pub mod Logic
 pub mod Members
 pub mod Chains
 pub mod Laid
+pub mod Firsts

@@ -4,7 +4,7 @@ use Prim.Native.Nat.{ℕ, zero, suc, _+_, _*_, _/_, _%_, _^_}
 use mathlib.Core.Bool.{Bool, true, false, _&&_, _||_, not}
 use mathlib.Core.List.{List}
 use lib.Bits.{bitOr}
-use lib.Dec.{eqb, ltb}
+use lib.Dec.{eqb, leb, ltb}
 use lib.ListN.{set, replicate}
 use Rattle.reference.specs.Lists.{choose, in-range, each}
 use Rattle.state.specs.declared.Thread.{Thread}
@@ -45,13 +45,13 @@ walk-queues thread first (suc m) =
     let w = walk-queues thread first m in
     after w (walk-from thread (suc m) 33 (first (suc m)) (w .met))
 
--- the thread is placed in one of the queues 0 to m
-abbrev pub queued : ℕ → Thread → Bool
-queued m x = eqb (x .status) 1 && eqb (x .holder) 0 || eqb (x .status) 2 && in-range 1 m (x .holder)
+-- the thread is placed in one of the queues
+abbrev pub queued : Thread → Bool
+queued x = eqb (x .status) 1 && leb (x .holder) 8 || eqb (x .status) 2 && in-range 1 8 (x .holder)
 
 -- none of the threads 1 to t that are placed in a queue is missed
-abbrev pub none-missed : (ℕ → Thread) → ℕ → ℕ → ℕ → Bool
-none-missed thread met m t = each (λ k. not (queued m (thread k)) || has-bit met k) 1 t
+abbrev pub none-missed : (ℕ → Thread) → ℕ → ℕ → Bool
+none-missed thread met t = each (λ k. not (queued (thread k)) || has-bit met k) 1 t
 
 -- ---- a record's threads as bytes
 

@@ -8,6 +8,7 @@ ghost use Rattle.rules.specs.Walk.{has-bit, with-bit, walk-from, walk-qu
 use state::Thread;
 use state::chain::first_at;
 use state::queues::get;
+use state::queues::queued_in;
 
 // Whether all is well so far, and the threads met so far: bit k for thread k.
 pub(crate) struct Walked {
@@ -53,11 +54,8 @@ pub(crate) fn thread_in_bytes(threads: &[u8], k: u8) -> Thread
 pub(crate) fn placed_in(x: Thread, q: u8) -> bool
     ensures { λ r. ⌜ r ≡ placed-in x q ⌝ }
 {
-    if q == 0 {
-        (x.status == 1) & (x.holder == q)
-    } else {
-        (x.status == 2) & (x.holder == q)
-    }
+    let there = queued_in(q);
+    (x.status == there.status) & (x.holder == there.holder)
 }
 
 // The chain of queue q, after the threads met before: not ok where it meets one a second time, or one not placed there.
@@ -85,15 +83,15 @@ pub(crate) fn walk(threads: &[u8], q: u8, first: u8, before: u64) -> Walked
     Walked { ok: true, met }
 }
 
-// The chains of queue 0 and of the queue of each of m mutexes.
-pub(crate) fn walk_queues(threads: &[u8], firsts: [u8; 9], m: u8) -> Walked
-    ensures { λ r. ⌜ r ≡ walk-queues (thread-in-bytes (now (threads .entry))) (λ q. getD firsts q 0) m ⌝ }
+// The chains of all 17 queues.
+pub(crate) fn walk_queues(threads: &[u8], firsts: [u8; 17]) -> Walked
+    ensures { λ r. ⌜ r ≡ walk-queues (thread-in-bytes (now (threads .entry))) (λ q. getD firsts q 0) 16 ⌝ }
 {
     let ready = walk(threads, 0, first_at(firsts, 0), 0);
     let mut ok = ready.ok;
     let mut met = ready.met;
     let mut q: u8 = 0;
-    while q < m {
+    while q < 16 {
         q += 1;
         let w = walk(threads, q, first_at(firsts, q), met);
         ok = ok & w.ok;
@@ -102,32 +100,32 @@ pub(crate) fn walk_queues(threads: &[u8], firsts: [u8; 9], m: u8) -> Walked
     Walked { ok, met }
 }
 
-// The thread is placed in one of the queues 0 to m.
-pub(crate) fn queued(m: u8, x: Thread) -> bool
-    ensures { λ r. ⌜ r ≡ queued m x ⌝ }
+// The thread is placed in one of the queues.
+pub(crate) fn queued(x: Thread) -> bool
+    ensures { λ r. ⌜ r ≡ queued x ⌝ }
 {
-    ((x.status == 1) & (x.holder == 0)) | ((x.status == 2) & ((1 <= x.holder) & (x.holder <= m)))
+    ((x.status == 1) & (x.holder <= 8)) | ((x.status == 2) & ((1 <= x.holder) & (x.holder <= 8)))
 }
 
 // Each of the threads 1 to t that is placed in a queue was met.
-pub(crate) fn none_missed(threads: &[u8], met: u64, m: u8, t: u8) -> bool
-    ensures { λ r. ⌜ r ≡ none-missed (thread-in-bytes (now (threads .entry))) met m t ⌝ }
+pub(crate) fn none_missed(threads: &[u8], met: u64, t: u8) -> bool
+    ensures { λ r. ⌜ r ≡ none-missed (thread-in-bytes (now (threads .entry))) met t ⌝ }
 {
     let mut ok = true;
     let mut k: u8 = 0;
     while k < t {
         k += 1;
-        ok = ok & (!queued(m, thread_in_bytes(threads, k)) | has_bit(met, k));
+        ok = ok & (!queued(thread_in_bytes(threads, k)) | has_bit(met, k));
     }
     ok
 }
 
 // Rule 13 over the thread records' bytes: no chain meets a thread twice or one not placed there, and none placed there is missed.
-pub fn chains_ok(threads: &[u8], firsts: [u8; 9], m: u8, t: u8) -> bool
-    ensures { λ r. ⌜ r ≡ chains-in (thread-in-bytes (now (threads .entry))) (λ q. getD firsts q 0) m t ⌝ }
+pub fn chains_ok(threads: &[u8], firsts: [u8; 17], t: u8) -> bool
+    ensures { λ r. ⌜ r ≡ chains-in (thread-in-bytes (now (threads .entry))) (λ q. getD firsts q 0) t ⌝ }
 {
-    let w = walk_queues(threads, firsts, m);
-    w.ok & none_missed(threads, w.met, m, t)
+    let w = walk_queues(threads, firsts);
+    w.ok & none_missed(threads, w.met, t)
 }
 
 // A record's threads 1 to 32 as a picture has them.
@@ -148,9 +146,9 @@ pub(crate) fn record_bytes(threads: [Thread; 33]) -> [u8; 128]
 }
 
 // Rule 13 of a record.
-pub(crate) fn record_chains_ok(threads: [Thread; 33], firsts: [u8; 9], m: u8, t: u8) -> bool
-    ensures { λ r. ⌜ r ≡ chains-in (thread-in threads) (λ q. getD firsts q 0) m t ⌝ }
+pub(crate) fn record_chains_ok(threads: [Thread; 33], firsts: [u8; 17], t: u8) -> bool
+    ensures { λ r. ⌜ r ≡ chains-in (thread-in threads) (λ q. getD firsts q 0) t ⌝ }
 {
     let bytes = record_bytes(threads);
-    chains_ok(&bytes, firsts, m, t)
+    chains_ok(&bytes, firsts, t)
 }

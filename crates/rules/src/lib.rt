@@ -28,7 +28,7 @@ pub fn broken_rule(s: State) -> u8
     let chains = s.chains;
     let threads = chains.threads;
     let firsts = chains.firsts;
-    let chained = chain::record_chains_ok(threads, firsts, s.m, s.t);
+    let chained = chain::record_chains_ok(threads, firsts, s.t);
     if !chained {
         return BAD_CHAIN;
     }

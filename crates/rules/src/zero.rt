@@ -1,8 +1,5 @@
 // Rule 15: the record is zero where its picture does not reach.
 ghost use mathlib.Core.Path.{_≡_};
-ghost use mathlib.Core.Bool.{_||_};
-ghost use lib.Dec.{eqb, leb};
-ghost use lib.ListN.{getD};
 ghost use Rattle.state.specs.Record.{thread-in, processor-in, mutex-in};
 ghost use Rattle.state.specs.Rules.{zero-token?, zero-processor?, zero-mutex?, zero-thread?, within-or, zero-past};
 ghost use Rattle.reference.specs.Lists.{each};
@@ -29,6 +26,7 @@ pub(crate) fn zero_processor(x: Processor) -> bool
         & observed
         & (x.sequence == 0)
         & (x.answer == 0)
+        & (x.probe == 0)
 }
 
 pub(crate) fn zero_mutex(x: Mutex) -> bool
@@ -77,19 +75,6 @@ pub(crate) fn mutexes_past(mutexes: [Mutex; 9], m: u8) -> bool
     ok
 }
 
-pub(crate) fn firsts_past(firsts: [u8; 9], m: u8) -> bool
-    ensures { λ r. ⌜ r ≡ each (λ q. leb q m || eqb (getD firsts q 0) 0) 0 9 ⌝ }
-{
-    let mut ok = true;
-    let mut q: u8 = 0;
-    while q < 9 {
-        let j = q as usize;
-        ok = ok & ((q <= m) | (firsts[j] == 0));
-        q += 1;
-    }
-    ok
-}
-
 pub(crate) fn threads_past(threads: [Thread; 33], t: u8) -> bool
     ensures { λ r. ⌜ r ≡ each (λ k. within-or t k (zero-thread? (thread-in threads k))) 0 33 ⌝ }
 {
@@ -107,12 +92,8 @@ pub(crate) fn zero_past(s: State) -> bool
     ensures { λ r. ⌜ r ≡ zero-past s ⌝ }
 {
     let chains = s.chains;
-    let firsts = chains.firsts;
     let threads = chains.threads;
     let processors = s.processors;
     let mutexes = s.mutexes;
-    processors_past(processors, s.p)
-        & mutexes_past(mutexes, s.m)
-        & firsts_past(firsts, s.m)
-        & threads_past(threads, s.t)
+    processors_past(processors, s.p) & mutexes_past(mutexes, s.m) & threads_past(threads, s.t)
 }

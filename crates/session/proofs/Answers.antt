@@ -5,7 +5,7 @@ use mathlib.Core.Bool.{Bool, true, false, _&&_, not}
 use mathlib.Core.List.{List, []}
 use mathlib.Core.Path.{_≡_, refl, sym, ap, _∙_}
 use native.Mathlib.Omega.{arith}
-use lib.Dec.{eqb}
+use lib.Dec.{eqb, leb}
 use lib.ListN.{length, take}
 use borrow.Author.Tests.{lt-ltb, le-ltb, ltb-false, eq-eqb, ne-eqb, not-false}
 use Rattle.session.specs.declared.Answer.{Answer}
@@ -32,10 +32,10 @@ use Rattle.session.specs.Contract.{shown, started, lent-refusal, move-re
 -- ---- start
 
 abbrev ranges-ok : Config → Bool
-ranges-ok c = in-range 1 8 (c .P) && in-range 1 32 (c .T) && in-range 1 8 (c .M) && in-range 1 (c .T) (c .B)
+ranges-ok c = in-range 1 8 (c .P) && in-range 1 32 (c .T) && in-range 1 8 (c .M) && in-range 1 (c .T) (c .B) && leb (c .stealing) 1
 
 pub started-taken : (c : Config) → ranges-ok c ≡ true →
-    record { refusal = 0; session = record { state = start-record (c .P) (c .T) (c .M) (c .B); initial = c .B } } ≡ started c
+    record { refusal = 0; session = record { state = start-record (c .P) (c .T) (c .M) (c .B) (c .stealing); initial = c .B } } ≡ started c
 unfolding started config-cause
 started-taken c e =
     let n : config-cause c ≡ 0 = rw e in

@@ -120,7 +120,7 @@ module _ (c : Config) (right : config-cause c ≡ 0) (n : ℕ) (j : List ℕ) (h
             noted-more c right ms (g .going .all) a free ∙ ap (calls-of c) (sym (moves-more i front));
       }
 
-  module _ (s : Record) (e : s ≡ start-record (c .P) (c .T) (c .M) (c .B)) where
+  module _ (s : Record) (e : s ≡ start-record (c .P) (c .T) (c .M) (c .B) (c .stealing)) where
     front-moves : length front / 3 ≡ n
     front-moves = omega (arith, length-take (3 * n) j)
 

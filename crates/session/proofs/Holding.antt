@@ -105,7 +105,7 @@ module _ (c : Config) (right : config-cause c ≡ 0) (ms : List Move) (r : Sessi
 
   pub config-is : config-of r ≡ c
   unfolding encode
-  config-is = ap config-of (h .shows) ∙ (let z = sized c ms in λ i. record { P = z .0 i; T = z .1 i; M = z .2 i; B = c .B })
+  config-is = ap config-of (h .shows) ∙ (let z = sized c ms in λ i. record { P = z .0 i; T = z .1 i; M = z .2 i; B = c .B; stealing = z .3 i })
 
   pub applied-held : shown r .applied ≡ length ms
   applied-held = ap (λ (s : State). s .applied) shown-is ∙ applied-is c ms

@@ -89,7 +89,7 @@ pub record Going (c : Config) (j : List ℕ) (i : ℕ) (s : Record) : Type 0 whe
   pub state : s ≡ encode (run (start c) (moves i j))
 
 module _ (c : Config) (right : config-cause c ≡ 0) (j : List ℕ) where
-  pub going-start : (s : Record) → s ≡ start-record (c .P) (c .T) (c .M) (c .B) → Going c j 0 s
+  pub going-start : (s : Record) → s ≡ start-record (c .P) (c .T) (c .M) (c .B) (c .stealing) → Going c j 0 s
   unfolding moves run accepted
   going-start s e = record { all = refl; state = e ∙ start-shown c right }
 
@@ -142,7 +142,7 @@ module _ (c : Config) (right : config-cause c ≡ 0) (n : ℕ) (j : List ℕ) (h
   front-moves : length front / 3 ≡ n
   front-moves = omega (arith, length-take (3 * n) j)
 
-  module _ (s : Record) (e : s ≡ start-record (c .P) (c .T) (c .M) (c .B)) where
+  module _ (s : Record) (e : s ≡ start-record (c .P) (c .T) (c .M) (c .B) (c .stealing)) where
     -- the calls are not asked for
     abbrev keeps : ℕ → Record → List ℕ → Type 0
     keeps i r calls = Going c front i r

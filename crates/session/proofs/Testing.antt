@@ -29,7 +29,7 @@ module _ (r : Session) (j : List ℕ) where
 
   -- the calls that the replay counts
   pub counted-in : (size : Sized (r .state)) → lent-refusal r (length j) ≡ 0 → (calls : List ℕ) →
-      calls ≡ counted-of (start-record (r .state .p) (r .state .t) (r .state .m) (r .initial)) (take (3 * r .state .applied) j) (replicate 33 0) →
+      calls ≡ counted-of (start-record (r .state .p) (r .state .t) (r .state .m) (r .initial) (r .state .stealing)) (take (3 * r .state .applied) j) (replicate 33 0) →
       calls ≡ calls-of (config-of r) (standing r j)
   unfolding decode
   counted-in size free calls e =

@@ -7,7 +7,7 @@ use mathlib.Core.Path.{_≡_, refl, sym, ap, _∙_}
 use native.Mathlib.Omega.{arith}
 use lib.Dec.{eqb}
 use lib.ListN.{length, getD}
-use borrow.Author.Tests.{eq-eqb, ne-eqb}
+use borrow.Author.Tests.{le-leb, eq-eqb, ne-eqb}
 use Rattle.session.specs.declared.replay.Replayed.{Replayed}
 use Rattle.state.specs.declared.Session.{Session}
 use Rattle.state.specs.declared.State.{State as Record}
@@ -49,6 +49,7 @@ module _ (r : Session) (size : Sized (r .state)) (ok : session-ok r ≡ true) wh
         true-range 1 32 (r .state .t) (f .t-range .0) (f .t-range .1),
         true-range 1 8 (r .state .m) (f .m-range .0) (f .m-range .1),
         true-range 1 (r .state .t) (r .initial) (h .initial .0) (h .initial .1),
+        le-leb (r .state .stealing) 1 (f .stealing),
       )
 
   pub applied-most : r .state .applied ≤ 4000

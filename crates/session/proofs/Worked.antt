@@ -4,7 +4,7 @@ use mathlib.Core.Path.{refl}
 use Rattle.state.specs.Record.{chain}
 use Rattle.state.specs.Association.{encode, decode}
 use Rattle.state.specs.Rules.{session-ok, state-ok, zero-past, broken-rule, fields-ok, chains-ok, holders-ok, chain-ok, processor-ok, mutex-ok, thread-ok, every, no-twice}
-use Rattle.reference.specs.Lists.{tabulate, find, sum, is, each}
+use Rattle.reference.specs.Lists.{tabulate, those, find, sum, is, each}
 use Rattle.reference.specs.State.{line-of}
 use Rattle.reference.specs.Start.{config-cause, start}
 use Rattle.reference.specs.Step.{next, run, act, action-of, line}
@@ -13,10 +13,10 @@ use Rattle.reference.specs.Break.{step-breaks}
 use Rattle.reference.specs.Snapshot.{thread-entry, behind}
 use Rattle.reference.specs.Session.{bytes}
 use Rattle.session.specs.Contract.{started, lent-refusal, move-refusal, moved, written-at, journal-after}
-use Rattle.session.specs.Worked.{journal, answers, record-after, at-l8, idle, Table}
+use Rattle.session.specs.Worked.{journal, answers, record-after, at-l8, idle, Table, Stealing}
 
 pub table : Table
-unfolding started config-cause start tabulate encode decode chain run next act line line-of cause action-of moved move-refusal lent-refusal step-breaks journal-after written-at bytes session-ok state-ok broken-rule fields-ok processor-ok mutex-ok thread-ok chains-ok chain-ok holders-ok zero-past each every no-twice find sum is thread-entry behind answers record-after journal at-l8 idle
+unfolding started config-cause start tabulate those encode decode chain run next act line line-of cause action-of moved move-refusal lent-refusal step-breaks journal-after written-at bytes session-ok state-ok broken-rule fields-ok processor-ok mutex-ok thread-ok chains-ok chain-ok holders-ok zero-past each every no-twice find sum is thread-entry behind answers record-after journal at-l8 idle
 table =
     record {
       k1 = refl;
@@ -32,4 +32,18 @@ table =
       k8 = (refl, refl);
       k9 = refl;
       k10 = (refl, refl);
+    }
+
+pub stealing : Stealing
+unfolding started config-cause start tabulate those encode decode chain run next act line line-of cause action-of moved move-refusal lent-refusal step-breaks journal-after written-at bytes session-ok state-ok broken-rule fields-ok processor-ok mutex-ok thread-ok chains-ok chain-ok holders-ok zero-past each every no-twice find sum is thread-entry behind answers record-after journal
+stealing =
+    record {
+      fifth = refl;
+      looks = record { start = refl; moves = refl; end = (refl, refl, refl) };
+      takes = record { start = refl; moves = refl; end = (refl, refl, refl) };
+      loads = record { start = refl; moves = refl; end = (refl, refl) };
+      first-look = record { start = refl; moves = refl; end = refl };
+      second-look = record { start = refl; moves = refl; end = refl };
+      third-look = record { start = refl; moves = refl; end = refl };
+      own = record { start = refl; moves = refl; end = (refl, refl) };
     }

@@ -26,11 +26,11 @@ abbrev pub shown : Session → State
 shown r = decode (r .state)
 
 abbrev pub config-of : Session → Config
-config-of r = record { P = r .state .p; T = r .state .t; M = r .state .m; B = r .initial }
+config-of r = record { P = r .state .p; T = r .state .t; M = r .state .m; B = r .initial; stealing = r .state .stealing }
 
 -- a start table from its numbers
-abbrev pub table : ℕ → ℕ → ℕ → ℕ → Config
-table p t m b = record { P = p; T = t; M = m; B = b }
+abbrev pub table : ℕ → ℕ → ℕ → ℕ → ℕ → Config
+table p t m b stealing = record { P = p; T = t; M = m; B = b; stealing = stealing }
 
 -- accepted, a call gives the record that it makes; refused, the one that stands for it
 abbrev pub answered : ℕ → Session → Session → Answer

@@ -1,4 +1,4 @@
--- K1 to K10 of the scope, as rows of one table over what the entry points answer.
+-- K1 to K10 of the scope as rows of one table over what the entry points answer; and sessions with a ready queue for each processor.
 -- Assumes nothing.
 use Prim.Native.Nat.{ℕ, zero, suc}
 use mathlib.Core.List.{List, [], _∷_, _++_}
@@ -11,13 +11,17 @@ use Rattle.state.specs.declared.Processor.{Processor}
 use Rattle.state.specs.declared.Mutex.{Mutex}
 use Rattle.state.specs.declared.State.{State}
 use Rattle.state.specs.declared.Session.{Session}
-use Rattle.state.specs.Record.{zero-thread, zero-processor, zero-mutex, zero-session, processor-of, mutex-of, thread-of}
+use Rattle.state.specs.Record.{zero-thread, zero-processor, zero-mutex, zero-session, processor-of, mutex-of, thread-of, first-of}
 use Rattle.reference.specs.Start.{Config}
 use Rattle.reference.specs.Step.{Move}
 use Rattle.session.specs.Contract.{started, moved, journal-after}
 
 abbrev pub config : ℕ → ℕ → ℕ → ℕ → Config
-config p t m b = record { P = p; T = t; M = m; B = b }
+config p t m b = record { P = p; T = t; M = m; B = b; stealing = 0 }
+
+-- with a ready queue for each processor
+abbrev pub each : ℕ → ℕ → ℕ → ℕ → Config
+each p t m b = record { P = p; T = t; M = m; B = b; stealing = 1 }
 
 abbrev pub by : ℕ → ℕ → ℕ → Move
 by p a o = record { processor = p; action = a; operand = o }
@@ -38,7 +42,11 @@ mutex c o t = record { count = c; owner = o; token = t }
 
 -- at a line: current and transit thread, mutex, observed token, own sequence number
 abbrev pub processor : ℕ → ℕ → ℕ → ℕ → Token → ℕ → Processor
-processor l c t m o n = record { position = l; current = c; transit = t; mutex = m; observed = o; sequence = n; answer = 0 }
+processor l c t m o n = record { position = l; current = c; transit = t; mutex = m; observed = o; sequence = n; answer = 0; probe = 0 }
+
+-- at CI2, with a look number
+abbrev pub probing : ℕ → Processor
+probing n = record { position = 1; current = 0; transit = 0; mutex = 0; observed = token 0 0; sequence = 0; answer = 0; probe = n }
 
 -- a journal that is long enough
 unfoldable pub journal : List ℕ
@@ -71,9 +79,10 @@ at-l8 =
         p = 2;
         t = 2;
         m = 1;
+        stealing = 0;
         applied = 20;
         chains = record {
-          firsts = set (replicate 9 0) 1 2;
+          firsts = set (replicate 17 0) 1 2;
           threads = set (set (replicate 33 zero-thread) 1 (thread 3 1 0)) 2 (thread 2 1 0);
         };
         processors = set (set (replicate 9 zero-processor) 1 (processor 0 1 0 0 (token 0 0) 2)) 2 (processor 8 0 0 1 (token 1 1) 0);
@@ -90,8 +99,9 @@ idle n =
         p = 1;
         t = 1;
         m = 1;
+        stealing = 0;
         applied = n;
-        chains = record { firsts = replicate 9 0; threads = set (replicate 33 zero-thread) 1 (thread 5 0 0) };
+        chains = record { firsts = replicate 17 0; threads = set (replicate 33 zero-thread) 1 (thread 5 0 0) };
         processors = set (replicate 9 zero-processor) 1 (processor 1 0 0 0 (token 0 0) 0);
         mutexes = replicate 9 zero-mutex;
       };
@@ -123,3 +133,19 @@ pub record Table : Type 0 where
   pub k9 : answers (started (config 2 2 1 2) .session) journal (by 1 1 1 ∷ by 1 0 0 ∷ by 2 3 1 ∷ []) ≡ 0 ∷ 0 ∷ 6 ∷ []
   -- K10 a go at CI2 with 3,999 standing in the record is taken, with 4,000: 8
   pub k10 : (moved (idle 3999) journal (by 1 0 0) .refusal ≡ 0) × (moved (idle 4000) journal (by 1 0 0) ≡ record { refusal = 8; session = idle 4000 })
+
+-- document 02, No. 13
+pub record Stealing : Type 0 where
+  -- a fifth number over 1 is refused by 1
+  pub fifth : started (record { P = 2; T = 3; M = 1; B = 3; stealing = 2 }) ≡ record { refusal = 1; session = zero-session }
+  -- start 2 3 1 3: thread 3 is in queue 1. Processor 2 exits, finds its own queue empty and looks one place on; it takes thread 3 from queue 1, and loads it
+  pub looks : Taken (each 2 3 1 3) (by 2 5 0 ∷ goes 2 1) (λ r. (first-of r 9 ≡ 3) × (thread-of r 3 ≡ thread 1 1 0) × (processor-of r 2 ≡ probing 1))
+  pub takes : Taken (each 2 3 1 3) (by 2 5 0 ∷ goes 2 2)
+      (λ r. (first-of r 9 ≡ 0) × (thread-of r 3 ≡ thread 4 2 0) × (processor-of r 2 ≡ processor 2 0 3 0 (token 0 0) 0))
+  pub loads : Taken (each 2 3 1 3) (by 2 5 0 ∷ goes 2 3) (λ r. (thread-of r 3 ≡ thread 3 2 0) × (processor-of r 2 ≡ processor 0 3 0 0 (token 0 0) 0))
+  -- start 2 2 1 2: processor 1 exits and goes twice; its look number is 0, 1, 0
+  pub first-look : Taken (each 2 2 1 2) (by 1 5 0 ∷ goes 1 0) (λ r. processor-of r 1 ≡ probing 0)
+  pub second-look : Taken (each 2 2 1 2) (by 1 5 0 ∷ goes 1 1) (λ r. processor-of r 1 ≡ probing 1)
+  pub third-look : Taken (each 2 2 1 2) (by 1 5 0 ∷ goes 1 2) (λ r. processor-of r 1 ≡ probing 0)
+  -- start 2 3 1 2: processor 2's C2 appends thread 3 to its own queue; processor 1 yields, and its Y1 finds its own queue empty
+  pub own : Taken (each 2 3 1 2) (by 2 6 3 ∷ goes 2 1 ++ by 1 4 0 ∷ goes 1 1) (λ r. (first-of r 10 ≡ 3) × (processor-of r 1 ≡ processor 0 1 0 0 (token 0 0) 0))

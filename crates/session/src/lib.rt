@@ -10,6 +10,7 @@ ghost use Rattle.state.specs.Rules.{session-ok};
 ghost use Rattle.session.specs.Replay.{BeforeLast};
 ghost use Rattle.reference.specs.Lists.{in-range};
 ghost use Rattle.reference.specs.Step.{move-of};
+ghost use lib.Dec.{leb};
 ghost use lib.ListN.{length};
 ghost use Rattle.session.specs.Contract.{table, started, lent-refusal, moved, journal-after, tested, undone, front};
 use crate::journal::write_move;
@@ -48,19 +49,19 @@ fn in_range(lo: u8, hi: u8, n: u8) -> bool
     (lo <= n) & (n <= hi)
 }
 
-fn config_ok(p: u8, t: u8, m: u8, b: u8) -> bool
-    ensures { λ r. ⌜ r ≡ in-range 1 8 p && in-range 1 32 t && in-range 1 8 m && in-range 1 t b ⌝ }
+fn config_ok(p: u8, t: u8, m: u8, b: u8, stealing: u8) -> bool
+    ensures { λ r. ⌜ r ≡ in-range 1 8 p && in-range 1 32 t && in-range 1 8 m && in-range 1 t b && leb stealing 1 ⌝ }
 {
-    in_range(1, 8, p) & in_range(1, 32, t) & in_range(1, 8, m) & in_range(1, t, b)
+    in_range(1, 8, p) & in_range(1, 32, t) & in_range(1, 8, m) & in_range(1, t, b) & (stealing <= 1)
 }
 
-// Begins a session: P processors, T threads, M mutexes, B threads created at first.
-pub fn start(p: u8, t: u8, m: u8, b: u8) -> Answer
-    ensures { λ r. ⌜ r ≡ started (table p t m b) ⌝ }
+// Begins a session: P processors, T threads, M mutexes, B threads created at first; stealing 0 for a single ready queue, 1 for one for each processor.
+pub fn start(p: u8, t: u8, m: u8, b: u8, stealing: u8) -> Answer
+    ensures { λ r. ⌜ r ≡ started (table p t m b stealing) ⌝ }
 {
-    let ok = config_ok(p, t, m, b);
+    let ok = config_ok(p, t, m, b, stealing);
     if ok {
-        let state = State::start(p, t, m, b);
+        let state = State::start(p, t, m, b, stealing);
         return Answer {
             refusal: 0,
             session: Session { state, initial: b },
@@ -130,6 +131,7 @@ pub fn test_journal(session: Session, journal: &[u8]) -> Tested
         state.t,
         state.m,
         session.initial,
+        state.stealing,
         journal,
         n,
         &mut calls,
@@ -195,6 +197,7 @@ fn before_last(session: Session, journal: &[u8], n: u16) -> Replayed
         state.t,
         state.m,
         session.initial,
+        state.stealing,
         journal,
         n,
         &mut none,

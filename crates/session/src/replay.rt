@@ -23,15 +23,16 @@ pub(crate) fn replay(
     t: u8,
     m: u8,
     b: u8,
+    stealing: u8,
     journal: &[u8],
     n: u16,
     calls: &mut [u16],
 ) -> Replayed
-    requires { ⌜ (config-cause (table p t m b) ≡ 0) × (3 * n ≤ length (now journal)) ⌝ }
-    ensures state { λ r. ⌜ Replays (table p t m b) (moves n (now (journal .entry))) r ⌝ }
-    ensures calls { λ r. ⌜ now (calls .exit) ≡ counted-of (start-record p t m b) (take (3 * n) (now (journal .entry))) (now (calls .entry)) ⌝ }
+    requires { ⌜ (config-cause (table p t m b stealing) ≡ 0) × (3 * n ≤ length (now journal)) ⌝ }
+    ensures state { λ r. ⌜ Replays (table p t m b stealing) (moves n (now (journal .entry))) r ⌝ }
+    ensures calls { λ r. ⌜ now (calls .exit) ≡ counted-of (start-record p t m b stealing) (take (3 * n) (now (journal .entry))) (now (calls .entry)) ⌝ }
 {
-    let s = State::start(p, t, m, b);
+    let s = State::start(p, t, m, b, stealing);
     let end = 3 * (n as usize);
     let done = run(s, &journal[..end], calls);
     let state = done.state;

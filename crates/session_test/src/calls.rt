@@ -95,7 +95,13 @@ pub(crate) fn reported(was: Session, answer: Answer, alike: bool) -> Session {
 }
 
 fn start(session: Session, line: Line) -> Session {
-    let answer = session::start(line.byte(1), line.byte(2), line.byte(3), line.byte(4));
+    let answer = session::start(
+        line.byte(1),
+        line.byte(2),
+        line.byte(3),
+        line.byte(4),
+        line.byte(5),
+    );
     reported(session, answer, true)
 }
 

@@ -1,4 +1,4 @@
-// The fields of a session's record by their numbers: 0 to 4 are P, T, M, the moves applied and B, 5 to 13 the queues' firsts, 14 to 85 the processors (8 each), 86 to 121 the mutexes (4 each), 122 to 220 the threads (3 each). Each table begins with its unused row 0.
+// The fields of a session's record by their numbers: 0 to 4 are P, T, M, the moves applied and B, 5 to 13 the firsts of queues 0 to 8, 14 to 85 the processors (8 each), 86 to 121 the mutexes (4 each), 122 to 220 the threads (3 each), 221 the choice of ready queues, 222 to 229 the firsts of those of the processors, 230 to 238 the processors' look numbers. Each table begins with its unused row 0.
 use crate::line::low;
 use state::Chains;
 use state::Mutex;
@@ -12,7 +12,7 @@ use state::chain::thread_at;
 use state::chain::with_first;
 use state::chain::with_thread;
 
-const FIELDS: u16 = 221;
+const FIELDS: u16 = 239;
 
 fn wide(b: u8) -> u16 {
     b as u16
@@ -82,10 +82,21 @@ fn field(session: Session, i: u16) -> u16 {
         let r = state.mutex(low(j / 4));
         return of_mutex(r, j % 4);
     }
-    let j = i - 122;
-    let threads = chains.threads;
-    let r = thread_at(threads, low(j / 3));
-    of_thread(r, j % 3)
+    if i < 221 {
+        let j = i - 122;
+        let threads = chains.threads;
+        let r = thread_at(threads, low(j / 3));
+        return of_thread(r, j % 3);
+    }
+    if i == 221 {
+        return wide(state.stealing);
+    }
+    if i < 230 {
+        let firsts = chains.firsts;
+        return wide(first_at(firsts, low(i - 213)));
+    }
+    let r = state.processor(low(i - 230));
+    wide(r.probe)
 }
 
 pub(crate) fn same(a: Session, b: Session) -> bool {
@@ -219,11 +230,25 @@ fn with_state(state: State, i: u16, v: u16) -> State {
         let r = state.mutex(m);
         return state.with_mutex(m, with_of_mutex(r, j % 4, v));
     }
-    let j = i - 122;
-    let k = low(j / 3);
-    let r = thread_at(threads, k);
-    let threads = with_thread(threads, k, with_of_thread(r, j % 3, b));
-    state.with_chains(Chains { firsts, threads })
+    if i < 221 {
+        let j = i - 122;
+        let k = low(j / 3);
+        let r = thread_at(threads, k);
+        let threads = with_thread(threads, k, with_of_thread(r, j % 3, b));
+        return state.with_chains(Chains { firsts, threads });
+    }
+    if i == 221 {
+        next.stealing = b;
+        return next;
+    }
+    if i < 230 {
+        let firsts = with_first(firsts, low(i - 213), b);
+        return state.with_chains(Chains { firsts, threads });
+    }
+    let p = low(i - 230);
+    let mut r = state.processor(p);
+    r.probe = b;
+    state.with_processor(p, r)
 }
 
 // The record with field i set to v.

@@ -1,8 +1,8 @@
-// A line of the script: a word, known by its first letter, and up to four numbers.
+// A line of the script: a word, known by its first letter, and up to five numbers.
 pub struct Line {
     pub word: u8,
     pub at: usize,
-    pub numbers: [u16; 5],
+    pub numbers: [u16; 6],
 }
 
 // A number of the script as a byte.
@@ -21,7 +21,7 @@ fn longer(n: u16, b: u8) -> u16 {
 
 impl Line {
     pub(crate) fn empty() -> Line {
-        let numbers = [0u16; 5];
+        let numbers = [0u16; 6];
         Line {
             word: 0,
             at: 0,
@@ -31,7 +31,7 @@ impl Line {
 
     // Number i stands after the i-th space.
     pub(crate) fn number(self, i: usize) -> u16 {
-        if i < 5 { self.numbers[i] } else { 0 }
+        if i < 6 { self.numbers[i] } else { 0 }
     }
 
     pub(crate) fn byte(self, i: usize) -> u8 {
@@ -49,7 +49,7 @@ impl Line {
             self.word = b;
             return self;
         }
-        if 4 < i {
+        if 5 < i {
             return self;
         }
         if b == b' ' {

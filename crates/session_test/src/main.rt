@@ -66,7 +66,7 @@ fn run(
     answers: &mut [u8],
     pictures: &mut [u8],
 ) {
-    let none = session::start(0, 0, 0, 0);
+    let none = session::start(0, 0, 0, 0, 0);
     let mut session = none.session;
     let mut stored = none.session;
     let mut lent = Lent::all();
@@ -95,7 +95,7 @@ fn run(
 
 // Both journals have a byte more than is needed, and the script has room.
 fn main() {
-    let mut script = [0u8; 147456];
+    let mut script = [0u8; 196608];
     let n = io::read_full(STDIN_FILENO, &mut script);
     let mut journal = [0u8; 12001];
     let mut kept = [0u8; 12001];

@@ -52,7 +52,8 @@ fn init(session: Session, lent: Lent, line: Line, scripts: &[u8]) -> Session {
     let t = line.byte(2);
     let m = line.byte(3);
     let b = line.byte(4);
-    let answer = turns::start(p, t, m, b, &scripts[..n]);
+    let stealing = line.byte(5);
+    let answer = turns::start(p, t, m, b, stealing, &scripts[..n]);
     reported(session, answer, true)
 }
 

@@ -1,35 +1,36 @@
 -- The record of an allowed state keeps the rules, and it shows that state.
 -- Assumes nothing.
-use Prim.Native.Nat.{ℕ, zero, suc, _+_, _≤_, _<_}
-use mathlib.Core.Bool.{Bool, true, false, _&&_, _||_}
-use mathlib.Core.List.{List}
+use Prim.Native.Nat.{ℕ, zero, suc, _≤_, _<_}
+use mathlib.Core.Bool.{Bool, true, false, _&&_, _||_, not}
+use mathlib.Core.List.{List, []}
 use mathlib.Core.Logic.{_≢_}
 use mathlib.Core.Path.{_≡_, refl, ap, sym, subst, _∙_}
 use native.Mathlib.Omega.{arith}
-use lib.Dec.{eqb, leb}
+use lib.Dec.{eqb}
 use lib.ListN.{length}
 use lib.Seq.{ext-getD}
-use borrow.Author.Tests.{leb-false, eqb-true, eq-eqb, ne-eqb}
+use borrow.Author.Tests.{eqb-true, eq-eqb, ne-eqb}
 use Rattle.state.specs.declared.Thread.{Thread}
 use Rattle.state.specs.declared.Processor.{Processor}
 use Rattle.state.specs.declared.State.{State}
 use Rattle.state.specs.Record.{zero-thread, thread-of, processor-of, mutex-of, first-of}
-use Rattle.state.specs.Association.{encode, decode, queue-at, queue-shown, mutex-shown, processor-shown, token-shown, life-shown, thread-record, processor-record, mutex-record}
+use Rattle.state.specs.Association.{encode, decode, queue-at, ready-index, queued-as, queue-shown, mutex-shown, processor-shown, token-shown, life-shown, thread-record, processor-record, mutex-record}
 use Rattle.state.specs.Rules.{placed-in, chain-ok, chains-ok, register-matches, thread-matches, holders-ok, zero-processor?, zero-mutex?, zero-thread?, within-or, zero-past, state-ok}
 use Rattle.state.specs.Allowed.{Allowed}
+use Rattle.state.proofs.Numbers.{stands, queue-mutex, queue-ready, number-one}
 use Rattle.reference.specs.Lists.{at, choose, in-range, tabulate}
 use Rattle.reference.specs.State as reference
 use Rattle.reference.specs.State.{Life, new, live, terminated, processor-at, mutex-at, life-at, nobody, free-mutex}
-use Rattle.reference.specs.Snapshot.{first, behind}
+use Rattle.reference.specs.Snapshot.{behind}
 use Rattle.reference.specs.Safe.{In}
 use Rattle.reference.proofs.Tests.{both, both-left, both-right}
 use Rattle.reference.proofs.Same.{line-number}
 use Rattle.reference.proofs.Sums.{length-tabulate, tabulate-getD}
 use Rattle.association.proofs.Spots.{Spot, AtSpot, entry-for, spot-entry, spot-of}
-use Rattle.association.proofs.Shown.{Fits, allowed-fits, queue-past, queue-thread, queue-once, queue-row, queue-short, read-processor, read-mutex, read-first, read-thread, read-entry}
+use Rattle.association.proofs.Shown.{Fits, allowed-fits, queue-thread, queue-once, queue-row, queue-short, read-processor, read-mutex, read-first, read-thread, read-entry}
 use Rattle.shown.proofs.Tests.{at-out, Member, all-each}
 use Rattle.shown.proofs.Chains.{Queue, linked-chain, behind-linked, queue-ok}
-use Rattle.shown.proofs.Kept.{Kept, kept-state, Fields, fields-say, processor-says, stands, placed-inside}
+use Rattle.shown.proofs.Kept.{Kept, kept-state, Fields, fields-say, processor-says, placed-inside}
 
 -- a list is the table of what is read from it
 tabulate-back : {A : Type 0} (g : ℕ → A) (n : ℕ) (l : List A) (d : A) → length l ≡ n → ((i : ℕ) → In n i → g i ≡ at l i d) → tabulate g 1 n ≡ l
@@ -48,18 +49,23 @@ processor-again x =
       observed = x .observed;
       sequence = x .sequence;
       answer = x .answer;
+      probe = x .probe;
     }
 
--- a thread that is placed in a queue has the queue for its holder, and status 1 or 2
-placed-holder : (n o x q : ℕ) → placed-in (stands n o x) q ≡ true → o ≡ q
-placed-holder n o x q e = eqb-true o q (both-right (eqb n (choose (eqb q 0) 1 2)) (eqb o q) e)
+-- a thread of a queue is placed in no other, and one that is placed in a queue has status 1 or 2
+placed-number : (x q n : ℕ) → placed-in (queued-as x n) q ≡ true → x ≡ q
+placed-number x q n e =
+    let a : Thread = queued-as x n in
+    let b : Thread = queued-as q 0 in
+    number-one x n q 0 (eqb-true (a .status) (b .status) (both-left (eqb (a .status) (b .status)) (eqb (a .holder) (b .holder)) e))
+    (eqb-true (a .holder) (b .holder) (both-right (eqb (a .status) (b .status)) (eqb (a .holder) (b .holder)) e))
 
 placed-status : (n o x q : ℕ) → n ≢ 1 → n ≢ 2 → placed-in (stands n o x) q ≡ true → ⊥
-placed-status n o x q h g e = by (eqb q 0) (both-left (eqb n (choose (eqb q 0) 1 2)) (eqb o q) e)
+placed-status n o x q h g e = by (in-range 1 8 q) (both-left (eqb n (choose (in-range 1 8 q) 2 1)) (eqb o (queued-as q 0 .holder)) e)
   where
-    by : (b : Bool) → eqb n (choose b 1 2) ≡ true → ⊥
-    by true e = h (eqb-true n 1 e)
-    by false e = g (eqb-true n 2 e)
+    by : (b : Bool) → eqb n (choose b 2 1) ≡ true → ⊥
+    by true e = g (eqb-true n 2 e)
+    by false e = h (eqb-true n 1 e)
 
 module _ (s : reference.State) (h : Allowed s) where
   fits : Fits s
@@ -76,9 +82,12 @@ module _ (s : reference.State) (h : Allowed s) where
   life-is : (k : ℕ) → In (s .T) k → life-shown (thread-of (encode s) k .status) ≡ life-at s k
   life-is k i = by (life-at s k) refl
     where
+      is-live : (b : Bool) → life-shown (choose b 2 1) ≡ live
+      is-live true = refl
+      is-live false = refl
+
       spot : (x : Spot) → AtSpot s k x → live ≡ life-at s k → life-shown (thread-record (entry-for s k x) .status) ≡ live
-      spot Spot.ready a e = refl
-      spot (Spot.waiting m) a e = refl
+      spot (Spot.queued q) a e = is-live (in-range 1 8 q)
       spot (Spot.current p) a e = refl
       spot (Spot.transit p) a e = refl
       spot Spot.new a e = sym (e ∙ a)
@@ -87,7 +96,7 @@ module _ (s : reference.State) (h : Allowed s) where
       by : (l : Life) → life-at s k ≡ l → life-shown (thread-of (encode s) k .status) ≡ l
       by new e = rw (thread-at k i Spot.new e)
       by terminated e = rw (thread-at k i Spot.terminated e)
-      by live e = let x = spot-of s (fits .placed) k i in rw (thread-at k i (x .0) (x .1)) (spot (x .0) (x .1) (sym e))
+      by live e = let x = spot-of s (fits .placed) k i (fits .m-most) in rw (thread-at k i (x .0) (x .1)) (spot (x .0) (x .1) (sym e))
 
   -- ---- queues
 
@@ -96,13 +105,11 @@ module _ (s : reference.State) (h : Allowed s) where
   unfolding encode
   met q k e =
       let i : In (s .T) k = placed-inside (encode s) no-thread q k e in
-      let x = spot-of s (fits .placed) k i in
+      let x = spot-of s (fits .placed) k i (fits .m-most) in
       by (x .0) (x .1) (rw (thread-at k i (x .0) (x .1)) at e)
     where
       by : (x : Spot) → AtSpot s k x → placed-in (thread-record (entry-for s k x)) q ≡ true → Member k (queue-at s q)
-      by Spot.ready a e = subst (λ (q : ℕ). Member k (queue-at s q)) (placed-holder 1 0 (behind k (s .ready)) q e) a
-      by (Spot.waiting zero) a e = absurd (omega (arith, a .0))
-      by (Spot.waiting (suc m)) a e = subst (λ (q : ℕ). Member k (queue-at s q)) (placed-holder 2 (suc m) (behind k (mutex-at s (suc m) .queue)) q e) (a .1)
+      by (Spot.queued x) a e = subst (λ (q : ℕ). Member k (queue-at s q)) (placed-number x q (behind k (queue-at s x)) e) a
       by (Spot.current p) a e = absurd (placed-status 3 p 0 q (omega arith) (omega arith) e)
       by (Spot.transit p) a e = absurd (placed-status 4 p 0 q (omega arith) (omega arith) e)
       by Spot.new a e = absurd (placed-status 0 0 0 q (omega arith) (omega arith) e)
@@ -116,7 +123,7 @@ module _ (s : reference.State) (h : Allowed s) where
             (behind-linked (λ k. thread-of (encode s) k .next) (queue-at s q) (queue-once s fits q) (λ k m. queue-thread s fits q k m .0)
             (λ k m. ap (λ (x : Thread). x .next) (queue-row s fits q k m)));
         once = queue-once s fits q;
-        placed = λ k m. rw (queue-row s fits q k m, eq-eqb (choose (eqb q 0) 1 2) (choose (eqb q 0) 1 2) refl) (eq-eqb q q refl);
+        placed = λ k m. rw (queue-row s fits q k m, eq-eqb (queued-as q 0 .status) (queued-as q 0 .status) refl) (eq-eqb (queued-as q 0 .holder) (queued-as q 0 .holder) refl);
         met = met q;
       }
 
@@ -133,6 +140,11 @@ module _ (s : reference.State) (h : Allowed s) where
       tabulate-back (λ p. processor-shown (processor-of (encode s) p)) (s .P) (s .processors) nobody (h .processors)
       (λ p i. ap processor-shown (read-processor s fits p) ∙ processor-again (processor-at s p))
 
+  ready-again : tabulate (λ i. queue-shown (encode s) (ready-index (s .stealing) i)) 1 (reference.queues (s .stealing) (s .P)) ≡ s .ready
+  ready-again =
+      tabulate-back (λ i. queue-shown (encode s) (ready-index (s .stealing) i)) (reference.queues (s .stealing) (s .P)) (s .ready) [] (h .count)
+      (λ i l. queue-again (ready-index (s .stealing) i) ∙ queue-ready s i l)
+
   mutexes-again : tabulate (mutex-shown (encode s)) 1 (s .M) ≡ s .mutexes
   mutexes-again = tabulate-back (mutex-shown (encode s)) (s .M) (s .mutexes) free-mutex (h .mutexes) by
     where
@@ -142,7 +154,7 @@ module _ (s : reference.State) (h : Allowed s) where
           λ j.
           record {
             count = read-mutex s fits (suc m) j .count;
-            queue = queue-again (suc m) j;
+            queue = (queue-again (suc m) ∙ queue-mutex s (suc m) (omega (arith, fits .m-most))) j;
             owner = read-mutex s fits (suc m) j .owner;
             token = token-shown (read-mutex s fits (suc m) j .token);
           }
@@ -158,7 +170,8 @@ module _ (s : reference.State) (h : Allowed s) where
         P = s .P;
         T = s .T;
         M = s .M;
-        ready = queue-again 0 i;
+        stealing = s .stealing;
+        ready = ready-again i;
         processors = processors-again i;
         mutexes = mutexes-again i;
         lives = lives-again i;
@@ -190,11 +203,14 @@ module _ (s : reference.State) (h : Allowed s) where
       (register-kept 4 p (processor-at s p .transit) (λ k. thread-at (processor-at s p .transit) k (Spot.transit p) (i, refl)) (holds-threads p i .1)))
 
   matches : (k : ℕ) → In (s .T) k → thread-matches (encode s) k ≡ true
-  matches k i = let x = spot-of s (fits .placed) k i in by (x .0) (x .1)
+  matches k i = let x = spot-of s (fits .placed) k i (fits .m-most) in by (x .0) (x .1)
     where
+      in-queue : (b x y : Bool) → (not (eqb (choose b 2 1) 3) || x) && (not (eqb (choose b 2 1) 4) || y) ≡ true
+      in-queue true x y = refl
+      in-queue false x y = refl
+
       by : (x : Spot) → AtSpot s k x → thread-matches (encode s) k ≡ true
-      by Spot.ready a = rw (thread-at k i Spot.ready a)
-      by (Spot.waiting m) a = rw (thread-at k i (Spot.waiting m) a)
+      by (Spot.queued q) a = rw (thread-at k i (Spot.queued q) a) (in-queue (in-range 1 8 q) _ _)
       by (Spot.current p) a = rw (thread-at k i (Spot.current p) a, read-processor s fits p) (both (eq-eqb (processor-at s p .current) k (a .1)) refl)
       by (Spot.transit p) a = rw (thread-at k i (Spot.transit p) a, read-processor s fits p) (eq-eqb (processor-at s p .transit) k (a .1))
       by Spot.new a = rw (thread-at k i Spot.new a)
@@ -205,10 +221,8 @@ module _ (s : reference.State) (h : Allowed s) where
   unfolding zero-past encode
   past =
       both
-      (both
       (both (all-each (λ p. within-or (s .P) p (zero-processor? (processor-of (encode s) p))) 0 9 (λ p a b. no-processor p (in-range 1 (s .P) p) refl))
       (all-each (λ m. within-or (s .M) m (zero-mutex? (mutex-of (encode s) m))) 0 9 (λ m a b. no-mutex m (in-range 1 (s .M) m) refl)))
-      (all-each (λ q. leb q (s .M) || eqb (first-of (encode s) q) 0) 0 9 (λ q a b. no-first q (leb q (s .M)) refl)))
       (all-each (λ k. within-or (s .T) k (zero-thread? (thread-of (encode s) k))) 0 33 (λ k a b. none k (in-range 1 (s .T) k) refl))
     where
       no-processor : (p : ℕ) (b : Bool) → in-range 1 (s .P) p ≡ b → b || zero-processor? (processor-of (encode s) p) ≡ true
@@ -218,10 +232,6 @@ module _ (s : reference.State) (h : Allowed s) where
       no-mutex : (m : ℕ) (b : Bool) → in-range 1 (s .M) m ≡ b → b || zero-mutex? (mutex-of (encode s) m) ≡ true
       no-mutex m true e = refl
       no-mutex m false e = ap zero-mutex? (read-mutex s fits m ∙ ap mutex-record (at-out (s .mutexes) (s .M) m free-mutex (h .mutexes) e))
-
-      no-first : (q : ℕ) (b : Bool) → leb q (s .M) ≡ b → b || eqb (first-of (encode s) q) 0 ≡ true
-      no-first q true e = refl
-      no-first q false e = ap (λ (n : ℕ). eqb n 0) (read-first s fits q ∙ ap first (queue-past s fits q (leb-false q (s .M) e)))
 
       none : (k : ℕ) (b : Bool) → in-range 1 (s .T) k ≡ b → b || zero-thread? (thread-of (encode s) k) ≡ true
       none k true e = refl
@@ -233,7 +243,7 @@ module _ (s : reference.State) (h : Allowed s) where
       record {
         fields = h .fields;
         chains =
-            all-each (λ q. chain-ok (thread-of (encode s)) (s .T) q (first-of (encode s) q)) 0 (s .M + 1)
+            all-each (λ q. chain-ok (thread-of (encode s)) (s .T) q (first-of (encode s) q)) 0 17
             (λ q a b. queue-ok (thread-of (encode s)) (s .T) q (first-of (encode s) q) (queue-at s q) (queue-most q) (queue-is q));
         holders = both (all-each _ 1 (s .P) (λ p a b. registers p (omega arith))) (all-each (thread-matches (encode s)) 1 (s .T) (λ k a b. matches k (omega arith)));
         past = past;

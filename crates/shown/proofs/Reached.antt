@@ -1,6 +1,6 @@
 -- Every state that a session reaches is allowed, so a record shows it.
 -- Assumes nothing.
-use Prim.Native.Nat.{ℕ}
+use Prim.Native.Nat.{ℕ, _≤_}
 use mathlib.Core.Bool.{true, not}
 use mathlib.Core.List.{List}
 use mathlib.Core.Path.{_≡_, refl}
@@ -25,16 +25,18 @@ gone-is new = refl
 gone-is live = refl
 gone-is terminated = refl
 
-pub good-allowed : (s : reference.State) → Good s → In 8 (s .P) → In 32 (s .T) → In 8 (s .M) → Allowed s
-good-allowed s g rp rt rm =
+pub good-allowed : (s : reference.State) → Good s → In 8 (s .P) → In 32 (s .T) → In 8 (s .M) → s .stealing ≤ 1 → Allowed s
+good-allowed s g rp rt rm rc =
     regular-allowed s
     (record {
       p-range = rp;
       t-range = rt;
       m-range = rm;
+      stealing = rc;
       applied = g .applied;
       placed =
-          record { processors = g .processors; mutexes = g .mutexes; lives = g .lives; one-place = λ k i. rw (gone-is (life-at s k)) (g .census k i) };
+          record { processors = g .processors; mutexes = g .mutexes; lives = g .lives; count = g .queues; one-place = λ k i. rw (gone-is (life-at s k)) (g .census k i) };
+      probe = g .probe;
       ready = g .ready;
       registers = λ p i. omega (arith, g .table p i, g .applied);
       mutex = λ m i. omega (arith, g .sound m i, count-bound s g m i);
@@ -45,7 +47,7 @@ pub reached-allowed : (c : Config) → config-cause c ≡ 0 → (ms : List Move)
 reached-allowed c e ms ok =
     let z = sized c ms in
     let r = ranges c e in
-    good-allowed (run (start c) ms) (good c e ms ok) (rw (z .0) (r .processors)) (rw (z .1) (r .threads)) (rw (z .2) (r .mutexes))
+    good-allowed (run (start c) ms) (good c e ms ok) (rw (z .0) (r .processors)) (rw (z .1) (r .threads)) (rw (z .2) (r .mutexes)) (rw (z .3) (r .stealing))
 
 -- and so of whatever a session holds
 pub session-allowed : (c : Config) (n : ℕ) (ms : List Move) (calls : List Call) → config-cause c ≡ 0 → accepted (start c) ms ≡ true → Allowed (state-of c (left c n ms calls))

@@ -1,29 +1,34 @@
 -- The rules of an allowed state as inequalities on its registers, mutexes and queues: regular is what is allowed, in the form that arithmetic reads.
 -- Assumes nothing.
-use Prim.Native.Nat.{ℕ, zero, suc, _+_, _*_, _≤_}
+use Prim.Native.Nat.{ℕ, zero, suc, _+_, _-_, _*_, _≤_, _<_}
 use mathlib.Core.Bool.{Bool, true, false, _&&_, _||_}
 use mathlib.Core.List.{List, [], _∷_}
-use mathlib.Core.Path.{_≡_, refl, ap}
+use mathlib.Core.Path.{_≡_, refl, ap, sym, subst}
 use native.Mathlib.Omega.{arith}
 use lib.Dec.{eqb, ltb, leb}
+use lib.ListN.{length}
 use borrow.Author.Tests.{leb-true, le-leb, lt-ltb, ltb-true, eq-eqb, eqb-true, ne-eqb}
 use Rattle.state.specs.declared.Token.{Token}
+use Rattle.state.specs.declared.Thread.{Thread}
 use Rattle.state.specs.declared.Processor.{Processor}
 use Rattle.state.specs.Record.{thread-of, processor-of, mutex-of, first-of}
-use Rattle.state.specs.Association.{encode, queue-at, thread-record, token-record, processor-record}
-use Rattle.state.specs.Rules.{every, register-ok, token-ok, processor-ok, mutex-ok, thread-ok}
+use Rattle.state.specs.Association.{encode, queue-at, ready-index, queued-as, thread-record, token-record, processor-record}
+use Rattle.state.proofs.Numbers.{by-number, mutex-as, ready-as}
+use Rattle.state.specs.Rules.{every, register-ok, token-ok, processor-ok, mutex-ok, thread-ok, is-queue}
 use Rattle.state.specs.Allowed.{Allowed}
-use Rattle.reference.specs.Lists.{choose, in-range, sum}
+use Rattle.reference.specs.Lists.{at, choose, if-zero, in-range, sum, occurrences}
 use Rattle.reference.specs.State as reference
-use Rattle.reference.specs.State.{Line, App, CI2, CI3, L1, L3, L4, L6, L7, L8, L9, L10, TL1, GT1, GT3, TL3, U1, H2, H3, H5, H6, H8, Y1, Y2, Y3, C2, Row, row, processor-at, mutex-at}
+use Rattle.reference.specs.State.{Line, App, CI2, CI3, L1, L3, L4, L6, L7, L8, L9, L10, TL1, GT1, GT3, TL3, U1, H2, H3, H5, H6, H8, Y1, Y2, Y3, C2, Row, row, same-line, probes, processor-at, mutex-at}
 use Rattle.reference.specs.Snapshot.{first, behind}
 use Rattle.reference.specs.Safe.{In}
 use Rattle.reference.proofs.Tests.{both, both-left, both-right, _and_, range-true, true-range}
 use Rattle.reference.proofs.Same.{line-number}
-use Rattle.reference.proofs.Sums.{some, some-le, some-pos}
-use Rattle.reference.proofs.Local.{out, out-in, in-out}
+use Rattle.reference.proofs.Sums.{some, some-le, some-pos, sum-at}
+use Rattle.reference.proofs.Local.{out, out-in, in-out, ProbeFits}
+use Rattle.reference.proofs.Invariant.{some-queue}
 use Rattle.association.proofs.Spots.{Spot, AtSpot, entry-for, Placed, allowed-placed, spot-entry, spot-of}
-use Rattle.association.proofs.Shown.{Fits, allowed-fits, read-processor, read-mutex, read-first, read-entry}
+use Rattle.association.proofs.Shown.{Fits, out-of-range, allowed-fits, read-processor, read-mutex, read-first, read-entry}
+use Rattle.shown.proofs.Tests.{occurs-none}
 use Rattle.shown.proofs.Kept.{Fields, say-fields, fields-say}
 
 -- the registers of a processor at line l: in 1 .. their bound where the line's row has 1, else 0
@@ -55,9 +60,11 @@ pub record Regular (s : reference.State) : Type 0 where
   pub p-range : In 8 (s .P)
   pub t-range : In 32 (s .T)
   pub m-range : In 8 (s .M)
+  pub stealing : s .stealing ≤ 1
   pub applied : s .applied ≤ 4000
   pub placed : Placed s
-  pub ready : sum (out (s .T)) (s .ready) ≡ 0
+  pub probe : (p : ℕ) → In (s .P) p → ProbeFits (length (s .ready)) (processor-at s p .position) (processor-at s p .probe)
+  pub ready : sum (sum (out (s .T))) (s .ready) ≡ 0
   pub registers : (p : ℕ) → In (s .P) p → Registers (s .P) (s .T) (s .M) (processor-at s p .position) (processor-at s p)
   pub mutex : (m : ℕ) → In (s .M) m → Ranges (s .P) (s .T) (mutex-at s m)
 
@@ -178,17 +185,50 @@ behind-most t k (x ∷ q) e = by (eqb x k) (behind-most t k q rest)
     by true h = first-most t q rest
     by false h = h
 
+no-weight : (t : ℕ) → sum (out t) [] ≡ 0
+unfolding sum
+no-weight t = refl
+
+-- the look number of r queues, as the rule says it
+probe-fits : (r n : ℕ) (l : Line) → ProbeFits r l n → leb n ((r - 1) * probes l) ≡ true
+probe-fits r n l h = by (same-line l CI2) (h .most) (h .zero)
+  where
+    by : (b : Bool) → n < r → n ≤ r * choose b 1 0 → leb n ((r - 1) * choose b 1 0) ≡ true
+    by true m z = le-leb n ((r - 1) * 1) (omega arith)
+    by false m z = le-leb n ((r - 1) * 0) (omega arith)
+
+fits-probe : (r n : ℕ) (l : Line) → 1 ≤ r → leb n ((r - 1) * probes l) ≡ true → ProbeFits r l n
+fits-probe r n l h e = let w = two (same-line l CI2) (leb-true n ((r - 1) * probes l) e) in record { most = w .0; zero = w .1 }
+  where
+    two : (b : Bool) → n ≤ (r - 1) * choose b 1 0 → (n < r) × (n ≤ r * choose b 1 0)
+    two true m = (omega arith, omega arith)
+    two false m = (omega arith, omega arith)
+
 -- ---- a regular state is allowed
 
+-- a ready queue is there, and its threads name its processor
+ready-queue : (stealing P M i : ℕ) → In (reference.queues stealing P) i → M ≤ 8 → in-range 1 M (ready-index stealing i) || if-zero stealing (eqb (ready-index stealing i) 0) (in-range 9 (8 + P) (ready-index stealing i)) ≡ true
+ready-queue zero P M i r l = refl
+ready-queue (suc c) P M i r l = rw (out-of-range 1 M (8 + i) (λ a b. omega arith)) (true-range 9 (8 + P) (8 + i) (omega arith) (omega arith))
+
+ready-holder : (stealing P i : ℕ) → stealing ≤ 1 → In (reference.queues stealing P) i → choose (eqb stealing 1) (in-range 1 P (if-zero stealing 0 i)) (eqb (if-zero stealing 0 i) 0) ≡ true
+ready-holder zero P i l r = refl
+ready-holder (suc zero) P i l r = true-range 1 P i (r .0) (r .1)
+ready-holder (suc (suc c)) P i l r = absurd (omega arith)
+
 module _ (s : reference.State) (g : Regular s) where
-  queue-threads : (q : ℕ) → q ≤ s .M → every (in-range 1 (s .T)) (queue-at s q) ≡ true
-  queue-threads zero l = queue-fits (s .T) (s .ready) (g .ready)
-  queue-threads (suc m) l = queue-fits (s .T) (mutex-at s (suc m) .queue) (g .mutex (suc m) (omega arith) .queue)
+  ready-threads : (i : ℕ) → In (length (s .ready)) i → every (in-range 1 (s .T)) (reference.queue-at s i) ≡ true
+  ready-threads i l = queue-fits (s .T) (reference.queue-at s i) (omega (arith, g .ready, sum-at (sum (out (s .T))) (s .ready) i [] l))
+
+  queue-threads : (q : ℕ) → every (in-range 1 (s .T)) (queue-at s q) ≡ true
+  queue-threads =
+      by-number s (λ q l. every (in-range 1 (s .T)) l ≡ true) (g .placed .count) (λ q. queue-fits (s .T) [] (no-weight (s .T))) ready-threads
+      (λ m l u. queue-fits (s .T) (mutex-at s m .queue) (g .mutex m (omega (arith, g .placed .mutexes)) .queue))
 
   pub regular-fits : Fits s
   regular-fits = record { placed = g .placed; p-most = g .p-range .1; m-most = g .m-range .1; t-most = g .t-range .1; queues = queue-threads }
 
-  processor-fits : (p : ℕ) → In (s .P) p → processor-ok (s .P) (s .T) (s .M) (processor-of (encode s) p) ≡ true
+  processor-fits : (p : ℕ) → In (s .P) p → processor-ok (s .P) (s .T) (s .M) (reference.queues (s .stealing) (s .P)) (processor-of (encode s) p) ≡ true
   unfolding processor-ok encode
   processor-fits p i =
       let x : reference.Processor = processor-at s p in
@@ -202,6 +242,7 @@ module _ (s : reference.State) (g : Regular s) where
       (both
       (both
       (both
+      (both
       (both (le-leb (row (x .position) .number) 24 (w .number)) (register-fits (row (x .position) .current) (s .T) (x .current) (w .current) (t .current-low) (t .current-high)))
       (register-fits (row (x .position) .transit) (s .T) (x .transit) (w .transit) (t .transit-low) (t .transit-high)))
       (register-fits (row (x .position) .mutex) (s .M) (x .mutex) (w .mutex) (t .mutex-low) (t .mutex-high)))
@@ -209,37 +250,58 @@ module _ (s : reference.State) (g : Regular s) where
       (token-fits (s .P) (token-record (x .observed)) (most (row (x .position) .observed) (w .observed) (t .observed-high)) (rw e (t .observed-sequence-low)) (rw e (t .observed-sequence-high))))
       (le-leb (x .sequence) 4000 (t .sequence)))
       (le-leb (x .answer) 2 (t .answer)))
+      (probe-fits (reference.queues (s .stealing) (s .P)) (x .probe) (x .position) (rw (g .placed .count) at (g .probe p i))))
     where
       most : (c : ℕ) → c ≤ 1 → processor-at s p .observed .processor ≤ s .P * c → processor-at s p .observed .processor ≤ s .P
       most zero a b = omega arith
       most (suc zero) a b = omega arith
       most (suc (suc c)) a b = absurd (omega arith)
 
-  mutex-fits : (m : ℕ) → In (s .M) m → mutex-ok (s .P) (s .T) (first-of (encode s) m) (mutex-of (encode s) m) ≡ true
+  mutex-fits : (m : ℕ) → In (s .M) m → mutex-ok (s .P) (s .T) (mutex-of (encode s) m) ≡ true
   unfolding mutex-ok encode
   mutex-fits zero i = absurd (omega (arith, i .0))
   mutex-fits (suc m) i =
       let x : reference.Mutex = mutex-at s (suc m) in
       let z = g .mutex (suc m) i in
-      rw (read-first s regular-fits (suc m), read-mutex s regular-fits (suc m))
+      rw (read-mutex s regular-fits (suc m))
       (both
-      (both
-      (both (le-leb (x .count) (s .T + 1) (z .count)) (le-leb (first (x .queue)) (s .T) (first-most (s .T) (x .queue) (queue-threads (suc m) (i .1)))))
+      (both (le-leb (x .count) (s .T + 1) (z .count))
       (le-leb (x .owner) (s .T) (z .owner)))
       (token-fits (s .P) (token-record (x .token)) (z .token) (z .token-low) (z .token-high)))
 
-  thread-fits : (k : ℕ) → In (s .T) k → thread-ok (s .P) (s .T) (s .M) (thread-of (encode s) k) ≡ true
+  -- the first of a queue that is there is a thread, and of one that is not there is none
+  first-fits : (q : ℕ) → q ≤ 16 → first-of (encode s) q ≤ choose (is-queue (encode s) q) (s .T) 0
+  unfolding encode
+  first-fits q l =
+      rw (read-first s regular-fits q)
+      (by-number s (λ q l. first l ≤ choose (in-range 1 (s .M) q || if-zero (s .stealing) (eqb q 0) (in-range 9 (8 + s .P) q)) (s .T) 0) (g .placed .count)
+      (λ q. omega arith)
+      (λ i l. rw (ready-queue (s .stealing) (s .P) (s .M) i (omega (arith, g .placed .count)) (g .m-range .1)) (first-most (s .T) (reference.queue-at s i) (ready-threads i l)))
+      (λ m l u.
+      rw (true-range 1 (s .M) m (l .0) (omega (arith, g .placed .mutexes)))
+      (first-most (s .T) (mutex-at s m .queue) (queue-fits (s .T) (mutex-at s m .queue) (g .mutex m (omega (arith, g .placed .mutexes)) .queue)))) q)
+
+  thread-fits : (k : ℕ) → In (s .T) k → thread-ok (s .P) (s .T) (s .M) (s .stealing) (thread-of (encode s) k) ≡ true
   unfolding thread-ok encode
   thread-fits k i =
-      let x = spot-of s (g .placed) k i in
+      let x = spot-of s (g .placed) k i (g .m-range .1) in
       rw (read-entry s regular-fits k i, spot-entry s (g .placed) k i (x .0) (x .1)) (by (x .0) (x .1))
     where
-      by : (x : Spot) → AtSpot s k x → thread-ok (s .P) (s .T) (s .M) (thread-record (entry-for s k x)) ≡ true
-      by Spot.ready a = le-leb (behind k (s .ready)) (s .T) (behind-most (s .T) k (s .ready) (queue-threads 0 (omega arith)))
-      by (Spot.waiting zero) a = absurd (omega (arith, a .0))
-      by (Spot.waiting (suc m)) a =
-          both (true-range 1 (s .M) (suc m) (a .0 .0) (a .0 .1))
-          (le-leb (behind k (mutex-at s (suc m) .queue)) (s .T) (behind-most (s .T) k (mutex-at s (suc m) .queue) (queue-threads (suc m) (a .0 .1))))
+      no-member : 1 ≤ occurrences k [] → ⊥
+      no-member o = omega (arith, occurs-none k)
+
+      by : (x : Spot) → AtSpot s k x → thread-ok (s .P) (s .T) (s .M) (s .stealing) (thread-record (entry-for s k x)) ≡ true
+      by (Spot.queued q) a =
+          by-number s (λ q l. 1 ≤ occurrences k l → thread-ok (s .P) (s .T) (s .M) (s .stealing) (queued-as q (behind k l)) ≡ true) (g .placed .count)
+          (λ q o. absurd (no-member o))
+          (λ i l o.
+          subst (λ (x : Thread). thread-ok (s .P) (s .T) (s .M) (s .stealing) x ≡ true) (sym (ready-as (s .stealing) i (behind k (reference.queue-at s i)) (l .0)))
+          (both (ready-holder (s .stealing) (s .P) i (g .stealing) (omega (arith, g .placed .count))) (le-leb (behind k (reference.queue-at s i)) (s .T) (behind-most (s .T) k (reference.queue-at s i) (ready-threads i l)))))
+          (λ m l u o.
+          subst (λ (x : Thread). thread-ok (s .P) (s .T) (s .M) (s .stealing) x ≡ true) (sym (mutex-as m (behind k (mutex-at s m .queue)) (omega arith)))
+          (both (true-range 1 (s .M) m (l .0) (omega (arith, g .placed .mutexes)))
+          (le-leb (behind k (mutex-at s m .queue)) (s .T) (behind-most (s .T) k (mutex-at s m .queue) (queue-fits (s .T) (mutex-at s m .queue) (g .mutex m (omega (arith, g .placed .mutexes)) .queue))))))
+          q a
       by (Spot.current p) a = both (true-range 1 (s .P) p (a .0 .0) (a .0 .1)) refl
       by (Spot.transit p) a = both (true-range 1 (s .P) p (a .0 .0) (a .0 .1)) refl
       by Spot.new a = refl
@@ -252,8 +314,9 @@ module _ (s : reference.State) (g : Regular s) where
         p-range = g .p-range;
         t-range = g .t-range;
         m-range = g .m-range;
+        stealing = g .stealing;
         applied = g .applied;
-        first = rw (read-first s regular-fits 0) (first-most (s .T) (s .ready) (queue-threads 0 (omega arith)));
+        first = first-fits;
         processor = processor-fits;
         mutex = mutex-fits;
         thread = thread-fits;
@@ -265,39 +328,52 @@ module _ (s : reference.State) (g : Regular s) where
         processors = g .placed .processors;
         mutexes = g .placed .mutexes;
         lives = g .placed .lives;
+        count = g .placed .count;
         fields = say-fields (encode s) fields;
-        ready = queue-threads 0 (omega arith);
-        queues = by;
+        ready = ready-threads;
+        queues = λ m i. queue-fits (s .T) (mutex-at s m .queue) (g .mutex m i .queue);
         one-place = g .placed .one-place;
       }
-    where
-      by : (m : ℕ) → In (s .M) m → every (in-range 1 (s .T)) (mutex-at s m .queue) ≡ true
-      by zero i = absurd (omega (arith, i .0))
-      by (suc m) i = queue-threads (suc m) (i .1)
 
 -- ---- and an allowed state is regular
 
-processor-registers : (P T M : ℕ) (x : reference.Processor) → processor-ok P T M (processor-record x) ≡ true → Registers P T M (x .position) x
+-- a list of lists none of which weighs anything
+sum-nothing : (f : List ℕ → ℕ) (l : List (List ℕ)) → ((i : ℕ) → In (length l) i → f (at l i []) ≡ 0) → sum f l ≡ 0
+unfolding sum
+sum-nothing f [] h = refl
+sum-nothing f (x ∷ l) h = omega (arith, h 1 (omega arith), sum-nothing f l (λ i r. later i r))
+  where
+    later : (i : ℕ) → In (length l) i → f (at l i []) ≡ 0
+    later zero r = absurd (omega (arith, r .0))
+    later (suc i) r = h (suc (suc i)) (omega arith)
+
+processor-registers : (P T M n : ℕ) (x : reference.Processor) → processor-ok P T M n (processor-record x) ≡ true → Registers P T M (x .position) x × (leb (x .probe) ((n - 1) * probes (x .position)) ≡ true)
 unfolding processor-ok
-processor-registers P T M x e =
+processor-registers P T M n x e =
     let l = x .position in
     let w = row-small l in
     let f = (
     leb-true (row l .number) 24 and fits-register (row l .current) T (x .current) (w .current) and fits-register (row l .transit) T (x .transit) (w .transit) and
     fits-register (row l .mutex) M (x .mutex) (w .mutex) and fits-register (row l .observed) P (x .observed .processor) (w .observed) and
-    fits-token P (token-record (x .observed)) and leb-true (x .sequence) 4000 and leb-true (x .answer) 2
+    fits-token P (token-record (x .observed)) and leb-true (x .sequence) 4000 and leb-true (x .answer) 2 and (λ e. e)
     ) (rw (line-number l) at e) in
-    omega (arith, f .0 .0 .0 .0 .0 .0 .1, f .0 .0 .0 .0 .0 .1, f .0 .0 .0 .0 .1, f .0 .0 .0 .1, f .0 .0 .1, f .0 .1, f .1, observed-some (row l .observed) P (token-record (x .observed)) (w .observed) (f .0 .0 .0 .1 .low) (f .0 .0 .0 .1 .high))
+    (omega (arith, f .0 .0 .0 .0 .0 .0 .0 .1, f .0 .0 .0 .0 .0 .0 .1, f .0 .0 .0 .0 .0 .1, f .0 .0 .0 .0 .1, f .0 .0 .0 .1, f .0 .0 .1, f .0 .1, observed-some (row l .observed) P (token-record (x .observed)) (w .observed) (f .0 .0 .0 .0 .1 .low) (f .0 .0 .0 .0 .1 .high)), f .1)
 
 module _ (s : reference.State) (h : Allowed s) where
-  mutex-ranges : (m : ℕ) → In (s .M) m → mutex-ok (s .P) (s .T) (first-of (encode s) m) (mutex-of (encode s) m) ≡ true → Ranges (s .P) (s .T) (mutex-at s m)
+  mutex-ranges : (m : ℕ) → In (s .M) m → mutex-ok (s .P) (s .T) (mutex-of (encode s) m) ≡ true → Ranges (s .P) (s .T) (mutex-at s m)
   unfolding mutex-ok
   mutex-ranges m i e =
       let x : reference.Mutex = mutex-at s m in
       let f = (
-      leb-true (x .count) (s .T + 1) and leb-true (first-of (encode s) m) (s .T) and leb-true (x .owner) (s .T) and fits-token (s .P) (token-record (x .token))
+      leb-true (x .count) (s .T + 1) and leb-true (x .owner) (s .T) and fits-token (s .P) (token-record (x .token))
       ) (rw (read-mutex s (allowed-fits s h) m) at e) in
-      omega (arith, f .0 .0 .0, f .0 .1, f .1, fits-queue (s .T) (x .queue) (h .queues m i))
+      omega (arith, f .0 .0, f .0 .1, f .1, fits-queue (s .T) (x .queue) (h .queues m i))
+
+  known : (p : ℕ) → In (s .P) p → Registers (s .P) (s .T) (s .M) (processor-at s p .position) (processor-at s p) × (leb (processor-at s p .probe) ((reference.queues (s .stealing) (s .P) - 1) * probes (processor-at s p .position)) ≡ true)
+  unfolding encode
+  known p i =
+      processor-registers (s .P) (s .T) (s .M) (reference.queues (s .stealing) (s .P)) (processor-at s p)
+      (rw (read-processor s (allowed-fits s h) p) at (fields-say (encode s) (h .fields) .processor p i))
 
   pub allowed-regular : Regular s
   unfolding encode
@@ -307,9 +383,11 @@ module _ (s : reference.State) (h : Allowed s) where
         p-range = f .p-range;
         t-range = f .t-range;
         m-range = f .m-range;
+        stealing = f .stealing;
         applied = f .applied;
         placed = allowed-placed h;
-        ready = fits-queue (s .T) (s .ready) (h .ready);
-        registers = λ p i. processor-registers (s .P) (s .T) (s .M) (processor-at s p) (rw (read-processor s (allowed-fits s h) p) at (f .processor p i));
+        probe = λ p i. rw (h .count) (fits-probe (reference.queues (s .stealing) (s .P)) (processor-at s p .probe) (processor-at s p .position) (some-queue (s .stealing) (s .P) p i) (known p i .1));
+        ready = sum-nothing (sum (out (s .T))) (s .ready) (λ i l. fits-queue (s .T) (reference.queue-at s i) (h .ready i l));
+        registers = λ p i. known p i .0;
         mutex = λ m i. mutex-ranges m i (f .mutex m i);
       }

@@ -14,7 +14,7 @@ use Rattle.reference.specs.Snapshot.{stands-in}
 use Rattle.reference.proofs.Tests.{both, both-left, both-right, true-range}
 use Rattle.reference.proofs.Sums.{is-same, is-other}
 use Rattle.association.proofs.Queues.{occurs-cons}
-use Rattle.association.proofs.Shown.{at-past}
+use Rattle.state.proofs.Numbers.{at-past}
 
 -- ---- reads
 

@@ -31,7 +31,7 @@ encode-sized s =
     record {
       processors = length-tabulate (λ p. processor-record (processor-at s p)) 0 9;
       mutexes = length-tabulate (λ m. mutex-record (mutex-at s m)) 0 9;
-      firsts = length-tabulate (λ q. first (queue-at s q)) 0 9;
+      firsts = length-tabulate (λ q. first (queue-at s q)) 0 17;
       threads = length-tabulate (thread-row s) 0 33;
     }
 

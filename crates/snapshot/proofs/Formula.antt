@@ -7,9 +7,10 @@ use mathlib.Core.Logic.{_⊎_, inl, inr}
 use mathlib.Core.Path.{_≡_, refl, ap, sym, subst, _∙_}
 use native.Mathlib.Nat.{not-suc-le-zero}
 use native.Mathlib.Omega.{arith}
+use native.Mathlib.Decide.{decLe}
 use lib.Dec.{eqb, ltb}
 use lib.ListN.{length}
-use borrow.Author.Tests.{eq-eqb, ne-eqb, leb-true, lt-ltb}
+use borrow.Author.Tests.{eq-eqb, ne-eqb, lt-ltb}
 use Rattle.snapshot.specs.declared.answer.Ahead.{Ahead}
 use Rattle.snapshot.specs.declared.answer.Ahead.the-variants.{Turns, NotWaiting, Refused}
 use Rattle.state.specs.declared.Thread.{Thread}
@@ -19,7 +20,7 @@ use Rattle.state.specs.Record.{thread-of, mutex-of, first-of, chain}
 use Rattle.state.specs.Association.{decode, mutex-shown, thread-record}
 use Rattle.state.specs.Rules.{state-ok}
 use Rattle.state.proofs.Sized.{Sized}
-use Rattle.reference.specs.Lists.{choose, if-zero, find, occurrences}
+use Rattle.reference.specs.Lists.{choose, if-zero, find, sum, occurrences}
 use Rattle.reference.specs.State as reference
 use Rattle.reference.specs.State.{Processor, Life, new, live, terminated, mutex-at, free-mutex, life-at}
 use Rattle.reference.specs.Safe.{In}
@@ -117,19 +118,27 @@ pub record Elsewhere (s : reference.State) (k : ℕ) : Type 0 where
   pub status : thread-entry s k .status ≡ 2 → ⊥
 
 module _ (s : reference.State) (h : Placed s) (k : ℕ) (i : In (s .T) k) where
-  elsewhere : stands-in k (s .ready) ≡ true → waits-for s k ≡ 0
+  -- where a ready queue has it
+  abbrev ready : ℕ
+  ready = find (stands-in k) (s .ready)
+
+  elsewhere : 1 ≤ ready → waits-for s k ≡ 0
   elsewhere e =
-      find-none (λ (x : reference.Mutex). occurrences k (x .queue)) (λ (x : reference.Mutex). stands-in k (x .queue)) (λ x. refl) (s .mutexes)
-      (omega (arith, h .one-place k i, leb-true 1 (occurrences k (s .ready)) e))
+      elim (decLe 1 (sum (occurrences k) (s .ready))) [
+        | yes l ↦
+            find-none (λ (x : reference.Mutex). occurrences k (x .queue)) (λ (x : reference.Mutex). stands-in k (x .queue)) (λ x. refl) (s .mutexes)
+            (omega (arith, h .one-place k i))
+        | no l ↦ absurd (omega (arith, find-none (occurrences k) (stands-in k) (λ x. refl) (s .ready) (omega arith)))
+      ]
 
   waiting : Elsewhere s k ⊎ ((m : ℕ) × Waiting s k m)
   unfolding thread-entry
-  waiting = go (stands-in k (s .ready)) refl (waits-for s k) refl
+  waiting = go ready refl (waits-for s k) refl
     where
-      go : (b : Bool) → stands-in k (s .ready) ≡ b → (n : ℕ) → waits-for s k ≡ n → Elsewhere s k ⊎ ((m : ℕ) × Waiting s k m)
-      go true e n f = inl (record { found = elsewhere e; status = λ x. (let y : _≡_ {A = ℕ} 1 2 = rw e at x in omega arith) })
-      go false e zero f = inl (record { found = f; status = λ x. later-waits (find (λ (x : Processor). eqb (x .current) k) (s .processors)) (find (λ (x : Processor). eqb (x .transit) k) (s .processors)) (life-at s k) (rw (e, f) at x) })
-      go false e (suc n) f =
+      go : (b : ℕ) → ready ≡ b → (n : ℕ) → waits-for s k ≡ n → Elsewhere s k ⊎ ((m : ℕ) × Waiting s k m)
+      go (suc q) e n f = inl (record { found = elsewhere (omega arith); status = λ x. (let y : _≡_ {A = ℕ} 1 2 = rw e at x in omega arith) })
+      go zero e zero f = inl (record { found = f; status = λ x. later-waits (find (λ (x : Processor). eqb (x .current) k) (s .processors)) (find (λ (x : Processor). eqb (x .transit) k) (s .processors)) (life-at s k) (rw (e, f) at x) })
+      go zero e (suc n) f =
           inr (suc n, record { mutex = (omega arith, omega (arith, find-most (λ (x : reference.Mutex). stands-in k (x .queue)) (s .mutexes), h .mutexes)); found = f; status = rw (e, f); holder = rw (e, f) })
 
 module _ (r : State) (z : Sized r) (e : state-ok r ≡ true) (k : ℕ) (i : In (r .t) k) where

@@ -1,17 +1,18 @@
 -- Reading the records of a part one after the other.
 -- Assumes nothing.
-use Prim.Native.Nat.{ℕ, zero, suc, _+_, _*_, _-_, _≤_}
+use Prim.Native.Nat.{ℕ, _+_, _*_, _-_, _≤_, _<_}
 use mathlib.Core.Bool.{Bool, true, _&&_}
 use mathlib.Core.List.{List}
-use mathlib.Core.Logic.{_≢_}
-use mathlib.Core.Path.{_≡_, refl, ap, sym, _∙_}
+use mathlib.Core.Path.{_≡_, ap, sym, _∙_}
 use native.Mathlib.Omega.{arith}
 use lib.ListN.{length, set, take, drop, length-drop, drop-of-length-le}
 use lib.Seq.{take-all}
+use borrow.Author.Tests.{eq-eqb, ne-eqb, le-leb, lt-leb}
 use Rattle.reference.specs.Lists.{tabulate, each}
 use Rattle.reference.proofs.Each.{each-none, each-next}
 use Rattle.snapshot.specs.Snapshot.{byte, one-of, from-record, first-read}
-use Rattle.snapshot.proofs.Tables.{set-row, row-more}
+use Rattle.reference.proofs.Tests.{true-range}
+use Rattle.snapshot.proofs.Tables.{row-more}
 
 -- a part from a start to the end is what is left after the start
 pub part-to-end : (b : List ℕ) (at : ℕ) → take (length b - at) (drop at b) ≡ drop at b
@@ -38,11 +39,21 @@ pub test-more : (f : List ℕ → Bool) (w : ℕ) (b : List ℕ) (i : ℕ) (ok x
     → ok && x ≡ each (λ j. f (from-record w b j)) 1 (i + 1)
 test-more f w b i ok x e h = each-next (λ j. f (from-record w b j)) i ok x e (h ∙ ap f (next-record w b i))
 
--- the firsts: those of the mutexes, and at 0 that of the ready queue
-pub with-ready : (b : List ℕ) (ready m n : ℕ)
-    → set (tabulate (λ j. one-of m j (byte (from-record 8 b j) 1) 0) 0 n) 0 ready ≡ tabulate (first-read ready b m) 0 n
-with-ready b ready m n = set-row (λ j. one-of m j (byte (from-record 8 b j) 1) 0) (first-read ready b m) 0 n 0 ready refl same
-  where
-    same : (j : ℕ) → j ≢ 0 + 0 → one-of m j (byte (from-record 8 b j) 1) 0 ≡ first-read ready b m j
-    same zero h = absurd (h refl)
-    same (suc j) h = refl
+-- the first of a queue by its number
+module _ (ready : ℕ) (ps : List ℕ) (p : ℕ) (ms : List ℕ) (m q : ℕ) where
+  pub first-single : q ≡ 0 → first-read ready ps p ms m q ≡ ready
+  first-single e = rw (eq-eqb q 0 e)
+
+  pub first-mutex : (q ≡ 0 → ⊥) → q ≤ 8 → first-read ready ps p ms m q ≡ one-of m q (byte (from-record 8 ms q) 1) 0
+  first-mutex n l = rw (ne-eqb q 0 n, le-leb q 8 l)
+
+  pub first-each : 8 < q → first-read ready ps p ms m q ≡ one-of p (q - 8) (byte (from-record 12 ps (q - 8)) 11) 0
+  first-each l = rw (ne-eqb q 0 (omega arith), lt-leb q 8 l)
+
+-- the i-th of n, where there is one and where there is none
+module _ {A : Type 0} (n i : ℕ) (x z : A) where
+  pub one-there : 1 ≤ i → i ≤ n → one-of n i x z ≡ x
+  one-there h l = rw (true-range 1 n i h l)
+
+  pub one-past : 1 ≤ i → n < i → one-of n i x z ≡ z
+  one-past h l = rw (le-leb 1 i h, lt-leb i n l)

@@ -1,24 +1,27 @@
 -- The bytes that are written of a record that keeps the rules are the picture of the state that it shows.
 -- Assumes nothing.
-use Prim.Native.Nat.{ℕ, zero, suc, _*_}
+use Prim.Native.Nat.{ℕ, zero, suc, _+_, _-_, _*_, _≤_}
 use mathlib.Core.Bool.{true}
 use mathlib.Core.List.{List, [], _∷_, _++_}
-use mathlib.Core.Path.{_≡_, refl, ap, sym, subst, _∙_}
+use mathlib.Core.Path.{_≡_, refl, ap, ap₂, sym, subst, _∙_}
 use native.Mathlib.Omega.{arith}
+use native.Mathlib.Decide.{ℕ-discrete}
 use lib.ListN.{length, length-append}
 use Rattle.state.specs.declared.State.{State}
 use Rattle.state.specs.Record.{thread-of, processor-of, mutex-of, first-of, chain}
-use Rattle.state.specs.Association.{decode, processor-shown, mutex-shown, queue-shown, processor-record, thread-record}
+use Rattle.state.specs.Association.{decode, mutex-shown, queue-at, queue-shown, processor-record, thread-record}
 use Rattle.state.specs.Rules.{state-ok}
 use Rattle.state.proofs.Sized.{Sized}
-use Rattle.reference.specs.Lists.{tabulate}
+use Rattle.state.proofs.Branch.{if-none, if-some}
+use Rattle.state.proofs.Numbers.{queue-single, queue-no-single, queue-each, queue-no-each}
+use Rattle.reference.specs.Lists.{if-zero, tabulate}
 use Rattle.reference.specs.State as reference
-use Rattle.reference.specs.State.{nobody, processor-at}
+use Rattle.reference.specs.State.{processor-at}
+use Rattle.reference.specs.Start.{itself}
 use Rattle.reference.specs.Safe.{In}
 use Rattle.reference.specs.Snapshot as document
 use Rattle.reference.specs.Snapshot.{concat, first, two, picture, thread-entry, entry-bytes}
-use Rattle.reference.proofs.Sums.{tabulate-at}
-use Rattle.association.proofs.Shown.{Fits, allowed-fits, read-processor, read-entry}
+use Rattle.association.proofs.Shown.{Fits, allowed-fits, read-processor, read-first, read-entry}
 use Rattle.shown.proofs.Encode.{encode-decode, decode-allowed}
 use Rattle.snapshot.specs.Snapshot.{picture-length}
 use Rattle.snapshot.specs.Model.{rows, processor-bytes, mutex-bytes, thread-bytes, processors-bytes, mutexes-bytes, threads-bytes, record-bytes}
@@ -41,7 +44,7 @@ first-shown r q = go (first-of r q)
 
 module _ (r : State) where
   pub processors-length : length (processors-bytes r) ≡ r .p * 12
-  processors-length = rows-length (λ p. processor-bytes (processor-of r p)) 12 (λ i. refl) 1 (r .p)
+  processors-length = rows-length (λ p. processor-bytes (first-of r (8 + p)) (processor-of r p)) 12 (λ i. refl) 1 (r .p)
 
   pub mutexes-length : length (mutexes-bytes r) ≡ r .m * 8
   mutexes-length = rows-length (λ m. mutex-bytes (first-of r m) (mutex-of r m)) 8 (λ i. refl) 1 (r .m)
@@ -57,14 +60,35 @@ module _ (r : State) (z : Sized r) (e : state-ok r ≡ true) where
   fits : Fits (decode r)
   fits = allowed-fits (decode r) (decode-allowed r z e)
 
-  processor-same : (p : ℕ) → In (r .p) p → processor-bytes (processor-of r p) ≡ document.processor-bytes (processor-shown (processor-of r p))
-  unfolding decode
-  processor-same p i =
+  -- a queue of the record begins with that queue's first
+  first-is : (q : ℕ) → first-of r q ≡ first (queue-at (decode r) q)
+  first-is q = subst (λ (x : State). first-of x q ≡ first (queue-at (decode r) q)) (encode-decode r z e) (read-first (decode r) fits q)
+
+  single-same : first-of r 0 ≡ if-zero (decode r .stealing) (first (reference.queue-at (decode r) 1)) 0
+  single-same =
+      let s = decode r in
+      first-is 0 ∙
+      elim (ℕ-discrete (s .stealing) 0) [
+        | yes c ↦ ap first (queue-single s c) ∙ sym (if-none (s .stealing) _ _ c)
+        | no c ↦ ap first (queue-no-single s c) ∙ sym (if-some (s .stealing) _ _ c)
+      ]
+
+  own-same : (p : ℕ) → 1 ≤ p → first-of r (8 + p) ≡ if-zero (decode r .stealing) 0 (first (reference.queue-at (decode r) p))
+  own-same p l =
+      let s = decode r in
+      let o : 8 + p - 8 ≡ p = omega arith in
+      first-is (8 + p) ∙
+      elim (ℕ-discrete (s .stealing) 0) [
+        | yes c ↦ ap first (queue-no-each s (8 + p) (omega arith) c) ∙ sym (if-none (s .stealing) _ _ c)
+        | no c ↦ ap first (queue-each s (8 + p) (omega arith) c) ∙ ap (λ (i : ℕ). first (reference.queue-at s i)) o ∙ sym (if-some (s .stealing) _ _ c)
+      ]
+
+  processor-same : (p : ℕ) → 1 ≤ p → processor-bytes (first-of r (8 + p)) (processor-of r p) ≡ document.processor-record (decode r) p
+  processor-same p l =
       let a : processor-of r p ≡ processor-record (processor-at (decode r) p) =
       subst (λ (x : State). processor-of x p ≡ processor-record (processor-at (decode r) p)) (encode-decode r z e) (read-processor (decode r) fits p)
       in
-      let b : processor-at (decode r) p ≡ processor-shown (processor-of r p) = tabulate-at (λ p. processor-shown (processor-of r p)) (r .p) p nobody i in
-      ap processor-bytes (a ∙ ap processor-record b)
+      ap₂ processor-bytes (own-same p l) a
 
   mutex-same : (m : ℕ) → mutex-bytes (first-of r m) (mutex-of r m) ≡ document.mutex-bytes (mutex-shown r m)
   mutex-same m = ap (λ (k : ℕ). mutex-bytes k (mutex-of r m)) (sym (first-shown r m))
@@ -78,8 +102,8 @@ module _ (r : State) (z : Sized r) (e : state-ok r ≡ true) where
   unfolding record-bytes picture decode
   record-picture =
       let s = decode r in
-      let ps : rows (λ p. processor-bytes (processor-of r p)) 1 (r .p) ≡ concat document.processor-bytes (s .processors) =
-      rows-same _ _ 1 (r .p) (λ p x y. processor-same p (omega arith)) ∙ sym (concat-rows document.processor-bytes (λ p. processor-shown (processor-of r p)) 1 (r .p))
+      let ps : rows (λ p. processor-bytes (first-of r (8 + p)) (processor-of r p)) 1 (r .p) ≡ concat (document.processor-record s) (tabulate itself 1 (r .p)) =
+      rows-same _ _ 1 (r .p) (λ p x y. processor-same p x) ∙ sym (concat-rows (document.processor-record s) itself 1 (r .p))
       in
       let ms : rows (λ m. mutex-bytes (first-of r m) (mutex-of r m)) 1 (r .m) ≡ concat document.mutex-bytes (s .mutexes) =
       rows-same _ _ 1 (r .m) (λ m x y. mutex-same m) ∙ sym (concat-rows document.mutex-bytes (mutex-shown r) 1 (r .m))
@@ -87,4 +111,4 @@ module _ (r : State) (z : Sized r) (e : state-ok r ≡ true) where
       let ts : rows (λ k. thread-bytes (thread-of r k)) 1 (r .t) ≡ concat entry-bytes (tabulate (thread-entry s) 1 (r .t)) =
       rows-same _ _ 1 (r .t) (λ k x y. thread-same k (omega arith)) ∙ sym (concat-rows entry-bytes (thread-entry s) 1 (r .t))
       in
-      (λ i. (r .p ∷ r .t ∷ r .m ∷ sym (first-shown r 0) i ∷ two (r .applied) ++ 0 ∷ 0 ∷ []) ++ ps i ++ ms i ++ ts i)
+      (λ i. (r .p ∷ r .t ∷ r .m ∷ single-same i ∷ two (r .applied) ++ 0 ∷ r .stealing ∷ []) ++ ps i ++ ms i ++ ts i)

@@ -138,7 +138,7 @@ module _ (b : List ℕ) where
     unfolding rule-refusal first-broken broken-rule chains-ok zeros-with zero-bytes-ok
     rules-same =
         let r = fields b in
-        ap (λ (thread : ℕ → Thread). first-broken (zero-bytes-ok b && fields-ok r) (chains-in thread (first-of r) (r .m) (r .t)) (holders-ok r)) (fun-ext thread-same) ∙
+        ap (λ (thread : ℕ → Thread). first-broken (zero-bytes-ok b && fields-ok r) (chains-in thread (first-of r) (r .t)) (holders-ok r)) (fun-ext thread-same) ∙
         either-broken (zero-bytes-ok b) (fields-ok r) 12 (refuse (not (chains-ok r)) 13 (refuse (not (holders-ok r)) 14 0))
 
     number : rule-refusal b (threads-part b) (fields b) ≡ read-refusal b

@@ -1,14 +1,14 @@
 -- A picture that was written reads back to its state, and bytes that read at all are written back as the same bytes.
 -- Assumes nothing.
-use Prim.Native.Nat.{ℕ, zero, suc, _+_, _≤_, _<_}
-use mathlib.Core.Bool.{Bool, true, false, _||_, not}
+use Prim.Native.Nat.{ℕ, _+_, _≤_, _<_}
+use mathlib.Core.Bool.{Bool, true, false, not}
 use mathlib.Core.List.{List, _++_}
 use mathlib.Core.Path.{_≡_, refl, ap, sym, subst, _∙_}
 use native.Mathlib.Omega.{arith}
-use lib.Dec.{eqb, leb, ltb, leb·zero}
+use lib.Dec.{eqb, ltb}
 use lib.ListN.{length, getD, take, drop}
 use lib.Seq.{take-at}
-use borrow.Author.Tests.{eqb-true, eq-eqb, le-leb, le-ltb, not-false}
+use borrow.Author.Tests.{eqb-true, eq-eqb, le-ltb, not-false}
 use Rattle.state.specs.declared.State.{State}
 use Rattle.state.specs.Record.{zero-thread, zero-processor, zero-mutex}
 use Rattle.state.specs.Association.{decode}
@@ -77,18 +77,6 @@ past-zero {A} zero? z e g n size j l = go (in-range 1 n j) refl
         in
         rw (h, x) e
 
-first-past : (ready : ℕ) (part : List ℕ) (m q : ℕ) → q < 9 → leb q m || eqb (getD (tabulate (first-read ready part m) 0 9) q 0) 0 ≡ true
-first-past ready part m zero l = rw (leb·zero m)
-first-past ready part m (suc q) l = go (leb (suc q) m) refl
-  where
-    go : (b : Bool) → leb (suc q) m ≡ b → leb (suc q) m || eqb (getD (tabulate (first-read ready part m) 0 9) (suc q) 0) 0 ≡ true
-    go true h = rw h
-    go false h =
-        let x : getD (tabulate (first-read ready part m) 0 9) (suc q) 0 ≡ 0 =
-        tabulate-getD (first-read ready part m) 0 9 (suc q) 0 l ∙ (let y : 0 + suc q ≡ suc q = omega arith in rw (y, h, le-leb 1 (suc q) (omega arith)))
-        in
-        rw (h, x)
-
 module _ (b : List ℕ) where
   pub fields-sized : Sized (fields b)
   unfolding fields
@@ -96,7 +84,7 @@ module _ (b : List ℕ) where
       record {
         processors = length-tabulate (processor-read (processors-part b) (byte b 0)) 0 9;
         mutexes = length-tabulate (mutex-read (mutexes-part b) (byte b 2)) 0 9;
-        firsts = length-tabulate (first-read (byte b 3) (mutexes-part b) (byte b 2)) 0 9;
+        firsts = length-tabulate (first-read (byte b 3) (processors-part b) (byte b 0) (mutexes-part b) (byte b 2)) 0 17;
         threads = length-tabulate (thread-read (threads-part b) (byte b 1)) 0 33;
       }
 
@@ -109,10 +97,8 @@ module _ (b : List ℕ) where
   fields-past =
       both
       (both
-      (both
       (each-all _ 0 9 (λ j x l. past-zero zero-processor? zero-processor refl _ (byte b 0) 9 j (omega arith)))
       (each-all _ 0 9 (λ j x l. past-zero zero-mutex? zero-mutex refl _ (byte b 2) 9 j (omega arith))))
-      (each-all _ 0 9 (λ q x l. first-past (byte b 3) (mutexes-part b) (byte b 2) q (omega arith))))
       (each-all _ 0 33 (λ j x l. past-zero zero-thread? zero-thread refl _ (byte b 1) 33 j (omega arith)))
 
   module _ (w : Bytes b) (e : read b .refusal ≡ 0) where

@@ -4,7 +4,7 @@ use Prim.Native.Nat.{ℕ, zero, suc, _+_, _*_, _-_, _/_, _%_, _≤_, _<_}
 use mathlib.Core.Bool.{Bool, true}
 use mathlib.Core.List.{List, [], _∷_, _++_}
 use mathlib.Core.Path.{_≡_, ap, ap₂, sym, _∙_}
-use native.Mathlib.Nat.{mul-le-mul-left, not-suc-le-zero}
+use native.Mathlib.Nat.{mul-le-mul-left}
 use native.Mathlib.Omega.{arith}
 use lib.ListN.{length, getD, take, drop, length-drop, take-append-drop}
 use lib.Seq.{length-take-le, take-all, take-add, drop-drop, getD-take, getD-drop}
@@ -16,8 +16,9 @@ use Rattle.reference.proofs.Tests.{_and_, true-range}
 use Rattle.reference.proofs.Sums.{tabulate-getD}
 use Rattle.association.proofs.Tables.{tabulate-of}
 use Rattle.reference.proofs.Each.{each-at}
-use Rattle.snapshot.specs.Snapshot.{byte, two-at, from-record, one-of, processor-field, mutex-field, thread-field, first-read, processors-part, mutexes-part, threads-part, threads-at, fields, zero-at, processor-zeros, mutex-zeros, thread-zeros, zero-bytes-ok}
+use Rattle.snapshot.specs.Snapshot.{byte, two-at, from-record, one-of, processor-field, mutex-field, thread-field, first-read, processors-part, mutexes-part, threads-part, threads-at, fields, zero-at, mutex-zeros, thread-zeros, zero-bytes-ok}
 use Rattle.snapshot.specs.Model.{rows, header-bytes, processor-bytes, mutex-bytes, thread-bytes, processors-bytes, mutexes-bytes, threads-bytes, record-bytes}
+use Rattle.snapshot.proofs.Parts.{first-mutex, first-each, one-there}
 use Rattle.snapshot.proofs.ReadBack.{parts}
 
 -- each is a byte
@@ -38,17 +39,16 @@ front : (b : List ℕ) (n : ℕ) → n ≤ length b → tabulate (byte b) 0 n �
 front b n h = sym (tabulate-of (byte b) n 0 (take n b) (length-take-le n b h) (λ i l. getD-take n b i 0 l))
 
 module _ (b : List ℕ) (w : Bytes b) where
-  header-front : 8 ≤ length b → zero-at b 6 ≡ true → zero-at b 7 ≡ true → header-bytes (byte b 0) (byte b 1) (byte b 2) (byte b 3) (two-at b 4) ≡ take 8 b
+  header-front : 8 ≤ length b → zero-at b 6 ≡ true → header-bytes (byte b 0) (byte b 1) (byte b 2) (byte b 3) (two-at b 4) (byte b 7) ≡ take 8 b
   unfolding tabulate
-  header-front h six seven =
-      (λ i. byte b 0 ∷ byte b 1 ∷ byte b 2 ∷ byte b 3 ∷ high (byte b 4) (byte b 5) (w 5) i ∷ low (byte b 4) (byte b 5) (w 5) i ∷ zero-says b 6 six i ∷ zero-says b 7 seven i ∷ [])
+  header-front h six =
+      (λ i. byte b 0 ∷ byte b 1 ∷ byte b 2 ∷ byte b 3 ∷ high (byte b 4) (byte b 5) (w 5) i ∷ low (byte b 4) (byte b 5) (w 5) i ∷ zero-says b 6 six i ∷ byte b 7 ∷ [])
       ∙ front b 8 h
 
-  processor-front : 12 ≤ length b → processor-zeros b ≡ true → processor-bytes (processor-field b) ≡ take 12 b
+  processor-front : 12 ≤ length b → processor-bytes (byte b 11) (processor-field b) ≡ take 12 b
   unfolding tabulate
-  processor-front h e =
-      let z = (zero-says b 5 and zero-says b 11) e in
-      (λ i. byte b 0 ∷ byte b 1 ∷ byte b 2 ∷ byte b 3 ∷ byte b 4 ∷ z .0 i ∷ high (byte b 6) (byte b 7) (w 7) i ∷ low (byte b 6) (byte b 7) (w 7) i ∷ high (byte b 8) (byte b 9) (w 9) i ∷ low (byte b 8) (byte b 9) (w 9) i ∷ byte b 10 ∷ z .1 i ∷ [])
+  processor-front h =
+      (λ i. byte b 0 ∷ byte b 1 ∷ byte b 2 ∷ byte b 3 ∷ byte b 4 ∷ byte b 5 ∷ high (byte b 6) (byte b 7) (w 7) i ∷ low (byte b 6) (byte b 7) (w 7) i ∷ high (byte b 8) (byte b 9) (w 9) i ∷ low (byte b 8) (byte b 9) (w 9) i ∷ byte b 10 ∷ byte b 11 ∷ [])
       ∙ front b 12 h
 
   mutex-front : 8 ≤ length b → mutex-zeros b ≡ true → mutex-bytes (byte b 1) (mutex-field b) ≡ take 8 b
@@ -102,8 +102,6 @@ pub record Whole (b : List ℕ) : Type 0 where
 module _ (b : List ℕ) (h : Whole b) where
   record Zeros : Type 0 where
     pub six : zero-at b 6 ≡ true
-    pub seven : zero-at b 7 ≡ true
-    pub processors : (j : ℕ) → In (byte b 0) j → processor-zeros (from-record 12 (processors-part b) j) ≡ true
     pub mutexes : (j : ℕ) → In (byte b 2) j → mutex-zeros (from-record 8 (mutexes-part b) j) ≡ true
     pub threads : (j : ℕ) → In (byte b 1) j → thread-zeros (from-record 4 (threads-part b) j) ≡ true
 
@@ -112,13 +110,11 @@ module _ (b : List ℕ) (h : Whole b) where
   zeros-say =
       let same : (x : Bool) → x ≡ true → x ≡ true = λ x e. e in
       let z = (
-      same (zero-at b 6) and same (zero-at b 7) and each-at (λ i. processor-zeros (from-record 12 (processors-part b) i)) 1 (byte b 0) and
+      same (zero-at b 6) and
       each-at (λ i. mutex-zeros (from-record 8 (mutexes-part b) i)) 1 (byte b 2) and each-at (λ i. thread-zeros (from-record 4 (threads-part b) i)) 1 (byte b 1)
       ) (h .zeros) in
       record {
-        six = z .0 .0 .0 .0;
-        seven = z .0 .0 .0 .1;
-        processors = λ j i. z .0 .0 .1 j (i .0) (omega (arith, i .1));
+        six = z .0 .0;
         mutexes = λ j i. z .0 .1 j (i .0) (omega (arith, i .1));
         threads = λ j i. z .1 j (i .0) (omega (arith, i .1));
       }
@@ -132,11 +128,21 @@ module _ (b : List ℕ) (h : Whole b) where
   processors-front : processors-bytes (fields b) ≡ take (12 * byte b 0) (processors-part b)
   unfolding fields
   processors-front =
-      part-rows (λ p. processor-bytes (processor-of (fields b) p)) 12 (processors-part b) (byte b 0)
+      part-rows (λ p. processor-bytes (first-of (fields b) (8 + p)) (processor-of (fields b) p)) 12 (processors-part b) (byte b 0)
       (λ j i.
-      ap processor-bytes (read-row (λ j. processor-field (from-record 12 (processors-part b) j)) zero-processor (byte b 0) 9 j i (omega (arith, i .1, h .p-most))) ∙
+      ap₂ processor-bytes (first-here j i) (read-row (λ j. processor-field (from-record 12 (processors-part b) j)) zero-processor (byte b 0) 9 j i (omega (arith, i .1, h .p-most))) ∙
       processor-front (from-record 12 (processors-part b) j) (drop-bytes (processors-part b) (12 * (j - 1)) (drop-bytes b 8 (h .bytes)))
-      (record-fits 8 12 (byte b 0) j (omega (arith, h .size)) i) (zeros-say .processors j i))
+      (record-fits 8 12 (byte b 0) j (omega (arith, h .size)) i))
+    where
+      first-here : (j : ℕ) → In (byte b 0) j → getD (tabulate (first-read (byte b 3) (processors-part b) (byte b 0) (mutexes-part b) (byte b 2)) 0 17) (8 + j) 0 ≡ byte (from-record 12 (processors-part b) j) 11
+      first-here j i =
+          let e : 0 + (8 + j) ≡ 8 + j = omega arith in
+          let o : 8 + j - 8 ≡ j = omega arith in
+          tabulate-getD (first-read (byte b 3) (processors-part b) (byte b 0) (mutexes-part b) (byte b 2)) 0 17 (8 + j) 0 (omega (arith, i .1, h .p-most)) ∙
+          ap (first-read (byte b 3) (processors-part b) (byte b 0) (mutexes-part b) (byte b 2)) e ∙
+          first-each (byte b 3) (processors-part b) (byte b 0) (mutexes-part b) (byte b 2) (8 + j) (omega arith) ∙
+          ap (λ (k : ℕ). one-of (byte b 0) k (byte (from-record 12 (processors-part b) k) 11) 0) o ∙
+          one-there (byte b 0) j (byte (from-record 12 (processors-part b) j) 11) 0 (i .0) (i .1)
 
   mutexes-front : mutexes-bytes (fields b) ≡ take (8 * byte b 2) (mutexes-part b)
   unfolding fields
@@ -147,12 +153,13 @@ module _ (b : List ℕ) (h : Whole b) where
       mutex-front (from-record 8 (mutexes-part b) j) (drop-bytes (mutexes-part b) (8 * (j - 1)) (drop-bytes b (8 + 12 * byte b 0) (h .bytes)))
       (record-fits (8 + 12 * byte b 0) 8 (byte b 2) j (omega (arith, h .size)) i) (zeros-say .mutexes j i))
     where
-      first-here : (j : ℕ) → In (byte b 2) j → getD (tabulate (first-read (byte b 3) (mutexes-part b) (byte b 2)) 0 9) j 0 ≡ byte (from-record 8 (mutexes-part b) j) 1
-      first-here zero i = absurd (not-suc-le-zero (i .0))
-      first-here (suc q) i =
-          let e : 0 + suc q ≡ suc q = omega arith in
-          tabulate-getD (first-read (byte b 3) (mutexes-part b) (byte b 2)) 0 9 (suc q) 0 (omega (arith, i .1, h .m-most)) ∙
-          rw (e, true-range 1 (byte b 2) (suc q) (i .0) (i .1))
+      first-here : (j : ℕ) → In (byte b 2) j → getD (tabulate (first-read (byte b 3) (processors-part b) (byte b 0) (mutexes-part b) (byte b 2)) 0 17) j 0 ≡ byte (from-record 8 (mutexes-part b) j) 1
+      first-here j i =
+          let e : 0 + j ≡ j = omega arith in
+          tabulate-getD (first-read (byte b 3) (processors-part b) (byte b 0) (mutexes-part b) (byte b 2)) 0 17 j 0 (omega (arith, i .1, h .m-most)) ∙
+          ap (first-read (byte b 3) (processors-part b) (byte b 0) (mutexes-part b) (byte b 2)) e ∙
+          first-mutex (byte b 3) (processors-part b) (byte b 0) (mutexes-part b) (byte b 2) j (omega (arith, i .0)) (omega (arith, i .1, h .m-most)) ∙
+          one-there (byte b 2) j (byte (from-record 8 (mutexes-part b) j) 1) 0 (i .0) (i .1)
 
   threads-front : threads-bytes (fields b) ≡ take (4 * byte b 1) (threads-part b)
   unfolding fields
@@ -163,9 +170,9 @@ module _ (b : List ℕ) (h : Whole b) where
       thread-front (from-record 4 (threads-part b) j) (drop-bytes (threads-part b) (4 * (j - 1)) (drop-bytes b (threads-at (byte b 0) (byte b 2)) (h .bytes)))
       (record-fits (threads-at (byte b 0) (byte b 2)) 4 (byte b 1) j (omega (arith, h .size)) i) (zeros-say .threads j i))
 
-  head-front : header-bytes (fields b .p) (fields b .t) (fields b .m) (first-of (fields b) 0) (fields b .applied) ≡ take 8 b
+  head-front : header-bytes (fields b .p) (fields b .t) (fields b .m) (first-of (fields b) 0) (fields b .applied) (fields b .stealing) ≡ take 8 b
   unfolding fields tabulate
-  head-front = header-front b (h .bytes) (omega (arith, h .size)) (zeros-say .six) (zeros-say .seven)
+  head-front = header-front b (h .bytes) (omega (arith, h .size)) (zeros-say .six)
 
   -- a part is its first n bytes and what comes after
   split : (at n : ℕ) → drop at b ≡ take n (drop at b) ++ drop (at + n) b

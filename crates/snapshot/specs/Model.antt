@@ -19,7 +19,7 @@ use Rattle.reference.specs.Refusal.{bad-length, bad-field, bad-chain, bad-holde
 use Rattle.reference.specs.Lists.{choose, if-zero, tabulate, each}
 use Rattle.reference.specs.Snapshot.{two}
 use Rattle.snapshot.specs.Turns.{before}
-use Rattle.snapshot.specs.Snapshot.{byte, two-at, from-record, processors-part, mutexes-part, first-read, thread-read, processor-read, mutex-read, zero-at, processor-zeros, mutex-zeros, thread-zeros, picture-length, fields}
+use Rattle.snapshot.specs.Snapshot.{byte, two-at, from-record, processors-part, mutexes-part, first-read, thread-read, processor-read, mutex-read, zero-at, mutex-zeros, thread-zeros, picture-length, fields}
 
 -- ---- writing
 
@@ -32,12 +32,12 @@ unfoldable pub rows : (ℕ → List ℕ) → ℕ → ℕ → List ℕ
 rows f k zero = []
 rows f k (suc n) = f k ++ rows f (suc k) n
 
-abbrev pub header-bytes : ℕ → ℕ → ℕ → ℕ → ℕ → List ℕ
-header-bytes p t m first applied = p ∷ t ∷ m ∷ first ∷ two applied ++ 0 ∷ 0 ∷ []
+abbrev pub header-bytes : ℕ → ℕ → ℕ → ℕ → ℕ → ℕ → List ℕ
+header-bytes p t m first applied stealing = p ∷ t ∷ m ∷ first ∷ two applied ++ 0 ∷ stealing ∷ []
 
-abbrev pub processor-bytes : Processor → List ℕ
-processor-bytes x =
-    x .position ∷ x .current ∷ x .transit ∷ x .mutex ∷ x .observed .processor ∷ 0 ∷ two (x .observed .sequence) ++ two (x .sequence) ++ x .answer ∷ 0 ∷ []
+abbrev pub processor-bytes : ℕ → Processor → List ℕ
+processor-bytes first x =
+    x .position ∷ x .current ∷ x .transit ∷ x .mutex ∷ x .observed .processor ∷ x .probe ∷ two (x .observed .sequence) ++ two (x .sequence) ++ x .answer ∷ first ∷ []
 
 abbrev pub mutex-bytes : ℕ → Mutex → List ℕ
 mutex-bytes first x = x .count ∷ first ∷ x .owner ∷ x .token .processor ∷ two (x .token .sequence) ++ 0 ∷ 0 ∷ []
@@ -46,7 +46,7 @@ abbrev pub thread-bytes : Thread → List ℕ
 thread-bytes x = x .status ∷ x .holder ∷ x .next ∷ 0 ∷ []
 
 abbrev pub processors-bytes : State → List ℕ
-processors-bytes r = rows (λ p. processor-bytes (processor-of r p)) 1 (r .p)
+processors-bytes r = rows (λ p. processor-bytes (first-of r (8 + p)) (processor-of r p)) 1 (r .p)
 
 abbrev pub mutexes-bytes : State → List ℕ
 mutexes-bytes r = rows (λ m. mutex-bytes (first-of r m) (mutex-of r m)) 1 (r .m)
@@ -55,7 +55,7 @@ abbrev pub threads-bytes : State → List ℕ
 threads-bytes r = rows (λ k. thread-bytes (thread-of r k)) 1 (r .t)
 
 unfoldable pub record-bytes : State → List ℕ
-record-bytes r = header-bytes (r .p) (r .t) (r .m) (first-of r 0) (r .applied) ++ processors-bytes r ++ mutexes-bytes r ++ threads-bytes r
+record-bytes r = header-bytes (r .p) (r .t) (r .m) (first-of r 0) (r .applied) (r .stealing) ++ processors-bytes r ++ mutexes-bytes r ++ threads-bytes r
 
 -- ---- reading: `part` is the bytes from the thread records on
 
@@ -65,18 +65,16 @@ fields-with b part =
       p = byte b 0;
       t = byte b 1;
       m = byte b 2;
+      stealing = byte b 7;
       applied = two-at b 4;
       chains =
           record {
-            firsts = tabulate (first-read (byte b 3) (mutexes-part b) (byte b 2)) 0 9;
+            firsts = tabulate (first-read (byte b 3) (processors-part b) (byte b 0) (mutexes-part b) (byte b 2)) 0 17;
             threads = tabulate (thread-read part (byte b 1)) 0 33;
           };
       processors = tabulate (processor-read (processors-part b) (byte b 0)) 0 9;
       mutexes = tabulate (mutex-read (mutexes-part b) (byte b 2)) 0 9;
     }
-
-abbrev pub processors-zeros : List ℕ → ℕ → Bool
-processors-zeros b p = each (λ i. processor-zeros (from-record 12 b i)) 1 p
 
 abbrev pub mutexes-zeros : List ℕ → ℕ → Bool
 mutexes-zeros b m = each (λ i. mutex-zeros (from-record 8 b i)) 1 m
@@ -86,8 +84,7 @@ threads-zeros b t = each (λ i. thread-zeros (from-record 4 b i)) 1 t
 
 unfoldable pub zeros-with : List ℕ → List ℕ → Bool
 zeros-with b part =
-    zero-at b 6 && zero-at b 7 && processors-zeros (processors-part b) (byte b 0) && mutexes-zeros (mutexes-part b) (byte b 2) &&
-    threads-zeros part (byte b 1)
+    zero-at b 6 && mutexes-zeros (mutexes-part b) (byte b 2) && threads-zeros part (byte b 1)
 
 -- the refusals that come before the rules
 unfoldable pub shape-refusal : List ℕ → ℕ
@@ -100,7 +97,7 @@ unfoldable pub first-broken : Bool → Bool → Bool → ℕ
 first-broken fields chained held = refuse (not fields) bad-field (refuse (not chained) bad-chain (refuse (not held) bad-holder 0))
 
 unfoldable pub rule-refusal : List ℕ → List ℕ → State → ℕ
-rule-refusal b part r = first-broken (zeros-with b part && fields-ok r) (chains-in (thread-in-bytes part) (first-of r) (r .m) (r .t)) (holders-ok r)
+rule-refusal b part r = first-broken (zeros-with b part && fields-ok r) (chains-in (thread-in-bytes part) (first-of r) (r .t)) (holders-ok r)
 
 unfoldable pub refused-with : ℕ → Read
 refused-with n = record { refusal = n; state = zero-state }

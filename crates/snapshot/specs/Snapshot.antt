@@ -1,9 +1,9 @@
 -- "Picture", on records: what writing leaves in a lent buffer, and what reading makes of bytes. Bytes are counted from 0.
 -- Assumes nothing.
-use Prim.Native.Nat.{ℕ, zero, suc, _+_, _-_, _*_}
+use Prim.Native.Nat.{ℕ, _+_, _-_, _*_}
 use mathlib.Core.Bool.{Bool, _&&_, not}
 use mathlib.Core.List.{List, _++_}
-use lib.Dec.{eqb, ltb}
+use lib.Dec.{eqb, leb, ltb}
 use lib.ListN.{length, getD, drop}
 use Rattle.snapshot.specs.declared.answer.Read.{Read}
 use Rattle.state.specs.declared.Thread.{Thread}
@@ -45,7 +45,7 @@ byte b i = getD b i 0
 abbrev pub two-at : List ℕ → ℕ → ℕ
 two-at b i = 256 * byte b i + byte b (i + 1)
 
--- the processor, mutex or thread whose record begins the bytes
+-- the processor, mutex or thread whose record begins the bytes; of a processor byte 11 is the first of its own ready chain
 abbrev pub processor-field : List ℕ → Processor
 processor-field b =
     record {
@@ -56,6 +56,7 @@ processor-field b =
       observed = record { processor = byte b 4; sequence = two-at b 6 };
       sequence = two-at b 8;
       answer = byte b 10;
+      probe = byte b 5;
     }
 
 -- byte 1 is the first of its chain
@@ -92,10 +93,11 @@ mutex-read part m i = one-of m i (mutex-field (from-record 8 part i)) zero-mutex
 abbrev pub thread-read : List ℕ → ℕ → ℕ → Thread
 thread-read part t k = one-of t k (thread-field (from-record 4 part k)) zero-thread
 
--- the first of queue q: of the ready queue in the header, of the others in their mutex's record
-abbrev pub first-read : ℕ → List ℕ → ℕ → ℕ → ℕ
-first-read ready part m zero = ready
-first-read ready part m (suc q) = one-of m (suc q) (byte (from-record 8 part (suc q)) 1) 0
+-- the first of queue q: of the single ready queue in the header, of a mutex's in its record, of a processor's in its record
+abbrev pub first-read : ℕ → List ℕ → ℕ → List ℕ → ℕ → ℕ → ℕ
+first-read ready processors p mutexes m q =
+    choose (eqb q 0) ready
+    (choose (leb q 8) (one-of m q (byte (from-record 8 mutexes q) 1) 0) (one-of p (q - 8) (byte (from-record 12 processors (q - 8)) 11) 0))
 
 unfoldable pub fields : List ℕ → State
 fields b =
@@ -103,10 +105,11 @@ fields b =
       p = byte b 0;
       t = byte b 1;
       m = byte b 2;
+      stealing = byte b 7;
       applied = two-at b 4;
       chains =
           record {
-            firsts = tabulate (first-read (byte b 3) (mutexes-part b) (byte b 2)) 0 9;
+            firsts = tabulate (first-read (byte b 3) (processors-part b) (byte b 0) (mutexes-part b) (byte b 2)) 0 17;
             threads = tabulate (thread-read (threads-part b) (byte b 1)) 0 33;
           };
       processors = tabulate (processor-read (processors-part b) (byte b 0)) 0 9;
@@ -118,9 +121,6 @@ fields b =
 abbrev pub zero-at : List ℕ → ℕ → Bool
 zero-at b i = eqb (byte b i) 0
 
-abbrev pub processor-zeros : List ℕ → Bool
-processor-zeros b = zero-at b 5 && zero-at b 11
-
 abbrev pub mutex-zeros : List ℕ → Bool
 mutex-zeros b = zero-at b 6 && zero-at b 7
 
@@ -129,8 +129,7 @@ thread-zeros b = zero-at b 3
 
 unfoldable pub zero-bytes-ok : List ℕ → Bool
 zero-bytes-ok b =
-    zero-at b 6 && zero-at b 7 && each (λ i. processor-zeros (from-record 12 (processors-part b) i)) 1 (byte b 0) &&
-    each (λ i. mutex-zeros (from-record 8 (mutexes-part b) i)) 1 (byte b 2) &&
+    zero-at b 6 && each (λ i. mutex-zeros (from-record 8 (mutexes-part b) i)) 1 (byte b 2) &&
     each (λ i. thread-zeros (from-record 4 (threads-part b) i)) 1 (byte b 1)
 
 -- ---- reading: under 8 bytes 11, sizes 12, full length 11, then 12, 13, 14

@@ -4,7 +4,7 @@ ghost use Prim.Native.Nat.{_+_, _*_};
 ghost use lib.ListN.{drop};
 ghost use Rattle.reference.specs.Lists.{tabulate};
 ghost use Rattle.snapshot.specs.Snapshot.{byte, processor-field, mutex-field, thread-field, processor-read, mutex-read, thread-read, first-read, threads-at};
-ghost use Rattle.snapshot.specs.Model.{fields-with, processors-zeros, mutexes-zeros, threads-zeros, zeros-with, shape-refusal, read-with, refused-with};
+ghost use Rattle.snapshot.specs.Model.{fields-with, mutexes-zeros, threads-zeros, zeros-with, shape-refusal, read-with, refused-with};
 use crate::answer::Read;
 use crate::refusal::BAD_FIELD;
 use crate::refusal::BAD_LENGTH;
@@ -57,6 +57,7 @@ pub(crate) fn processor(b: &[u8]) -> Processor
         observed,
         sequence: two(byte(b, 8), byte(b, 9)),
         answer: byte(b, 10),
+        probe: byte(b, 5),
     }
 }
 
@@ -114,19 +115,50 @@ pub(crate) fn mutexes(b: &[u8], m: u8) -> [Mutex; 9]
     all
 }
 
-// The firsts of the queues, from the mutex records and the header's first of the ready queue.
-pub(crate) fn firsts(b: &[u8], ready: u8, m: u8) -> [u8; 9]
-    ensures { λ r. ⌜ r ≡ tabulate (first-read ready (now (b .entry)) m) 0 9 ⌝ }
+// The first of queue q: of the single ready queue in the header, of a mutex's and of a processor's in its record.
+pub(crate) fn first<'a>(
+    ready: u8,
+    processors: &'a [u8],
+    p: u8,
+    mutexes: &'a [u8],
+    m: u8,
+    q: u8,
+) -> u8
+    ensures { λ r. ⌜ r ≡ first-read ready (now (processors .entry)) p (now (mutexes .entry)) m q ⌝ }
 {
-    let mut all = [0u8; 9];
-    let mut i: u8 = 0;
-    while i < m {
-        let at = 8 * (i as usize);
-        i += 1;
-        let next = chain::with_first(all, i, byte(from(b, at), 1));
-        all = next;
+    if q == 0 {
+        return ready;
     }
-    chain::with_first(all, 0, ready)
+    if q <= 8 {
+        if q <= m {
+            return byte(from(mutexes, 8 * ((q as usize) - 1)), 1);
+        }
+        return 0;
+    }
+    if q - 8 <= p {
+        let i = q - 8;
+        return byte(from(processors, 12 * ((i as usize) - 1)), 11);
+    }
+    0
+}
+
+pub(crate) fn firsts<'a>(
+    ready: u8,
+    processors: &'a [u8],
+    p: u8,
+    mutexes: &'a [u8],
+    m: u8,
+) -> [u8; 17]
+    ensures { λ r. ⌜ r ≡ tabulate (first-read ready (now (processors .entry)) p (now (mutexes .entry)) m) 0 17 ⌝ }
+{
+    let mut all = [0u8; 17];
+    let mut q: u8 = 0;
+    while q < 17 {
+        let at = q as usize;
+        all[at] = first(ready, processors, p, mutexes, m, q);
+        q += 1;
+    }
+    all
 }
 
 pub(crate) fn threads(b: &[u8], t: u8) -> [Thread; 33]
@@ -154,34 +186,22 @@ pub(crate) fn fields<'a>(b: &'a [u8], part: &'a [u8]) -> State
     let p = byte(b, 0);
     let t = byte(b, 1);
     let m = byte(b, 2);
+    let front = from(b, 8);
     let after = from(b, 8 + 12 * (p as usize));
     let chains = Chains {
-        firsts: firsts(after, byte(b, 3), m),
+        firsts: firsts(byte(b, 3), front, p, after, m),
         threads: threads(part, t),
     };
     State {
         p,
         t,
         m,
+        stealing: byte(b, 7),
         applied: two(byte(b, 4), byte(b, 5)),
         chains,
-        processors: processors(from(b, 8), p),
+        processors: processors(front, p),
         mutexes: mutexes(after, m),
     }
-}
-
-// The unnamed bytes of p processor records.
-pub(crate) fn processors_zero(b: &[u8], p: u8) -> bool
-    ensures { λ r. ⌜ r ≡ processors-zeros (now (b .entry)) p ⌝ }
-{
-    let mut ok = true;
-    let mut i: u8 = 0;
-    while i < p {
-        let x = from(b, 12 * (i as usize));
-        i += 1;
-        ok = ok & ((byte(x, 5) == 0) & (byte(x, 11) == 0));
-    }
-    ok
 }
 
 // The unnamed bytes of m mutex records.
@@ -217,10 +237,9 @@ pub(crate) fn zeros<'a>(b: &'a [u8], part: &'a [u8]) -> bool
     ensures { λ r. ⌜ r ≡ zeros-with (now (b .entry)) (now (part .entry)) ⌝ }
 {
     let p = byte(b, 0);
-    let processors = processors_zero(from(b, 8), p);
     let mutexes = mutexes_zero(from(b, 8 + 12 * (p as usize)), byte(b, 2));
     let threads = threads_zero(part, byte(b, 1));
-    (byte(b, 6) == 0) & (byte(b, 7) == 0) & processors & mutexes & threads
+    (byte(b, 6) == 0) & mutexes & threads
 }
 
 // Where the thread records begin.

@@ -30,7 +30,7 @@ pub(crate) fn rule_refusal<'a>(b: &'a [u8], part: &'a [u8], s: State) -> u8
     let chains = s.chains;
     let firsts = chains.firsts;
     let fields = reader::zeros(b, part) & rules::field::fields_ok(s);
-    let chained = rules::chain::chains_ok(part, firsts, s.m, s.t);
+    let chained = rules::chain::chains_ok(part, firsts, s.t);
     let held = rules::holder::holders_ok(s);
     first_broken(fields, chained, held)
 }

@@ -1,5 +1,6 @@
 // The parts of a picture, each written into the front of a part of the buffer where it fits.
 ghost use mathlib.Core.Path.{_≡_};
+ghost use Prim.Native.Nat.{_+_};
 ghost use lib.Dec.{ltb};
 ghost use lib.ListN.{length, getD};
 ghost use Rattle.reference.specs.Refusal.{too-short, refuse};
@@ -14,8 +15,8 @@ use state::Thread;
 use state::access;
 use state::chain;
 
-pub(crate) fn put_header(b: &mut [u8], p: u8, t: u8, m: u8, first: u8, applied: u16)
-    ensures { λ _. ⌜ now (b .exit) ≡ over (now (b .entry)) (header-bytes p t m first applied) ⌝ }
+pub(crate) fn put_header(b: &mut [u8], p: u8, t: u8, m: u8, first: u8, applied: u16, stealing: u8)
+    ensures { λ _. ⌜ now (b .exit) ≡ over (now (b .entry)) (header-bytes p t m first applied stealing) ⌝ }
 {
     if b.len() < 8 {
         return;
@@ -27,11 +28,11 @@ pub(crate) fn put_header(b: &mut [u8], p: u8, t: u8, m: u8, first: u8, applied: 
     b[4] = (applied / 256) as u8;
     b[5] = (applied % 256) as u8;
     b[6] = 0;
-    b[7] = 0;
+    b[7] = stealing;
 }
 
-pub(crate) fn put_processor(b: &mut [u8], x: Processor)
-    ensures { λ _. ⌜ now (b .exit) ≡ over (now (b .entry)) (processor-bytes x) ⌝ }
+pub(crate) fn put_processor(b: &mut [u8], first: u8, x: Processor)
+    ensures { λ _. ⌜ now (b .exit) ≡ over (now (b .entry)) (processor-bytes first x) ⌝ }
 {
     if b.len() < 12 {
         return;
@@ -42,13 +43,13 @@ pub(crate) fn put_processor(b: &mut [u8], x: Processor)
     b[2] = x.transit;
     b[3] = x.mutex;
     b[4] = seen.processor;
-    b[5] = 0;
+    b[5] = x.probe;
     b[6] = (seen.sequence / 256) as u8;
     b[7] = (seen.sequence % 256) as u8;
     b[8] = (x.sequence / 256) as u8;
     b[9] = (x.sequence % 256) as u8;
     b[10] = x.answer;
-    b[11] = 0;
+    b[11] = first;
 }
 
 pub(crate) fn put_mutex(b: &mut [u8], first: u8, x: Mutex)
@@ -80,8 +81,16 @@ pub(crate) fn put_thread(b: &mut [u8], x: Thread)
     b[3] = 0;
 }
 
-pub(crate) fn put_processors(b: &mut [u8], p: u8, processors: [Processor; 9])
-    ensures { λ _. ⌜ now (b .exit) ≡ over (now (b .entry)) (rows (λ i. processor-bytes (processor-in processors i)) 1 p) ⌝ }
+// The first of processor p's own ready queue.
+pub(crate) fn own_first(firsts: [u8; 17], p: u8) -> u8
+    ensures { λ r. ⌜ r ≡ getD firsts (8 + p) 0 ⌝ }
+{
+    let i = 8 + (p as usize);
+    if i < 17 { firsts[i] } else { 0 }
+}
+
+pub(crate) fn put_processors(b: &mut [u8], p: u8, firsts: [u8; 17], processors: [Processor; 9])
+    ensures { λ _. ⌜ now (b .exit) ≡ over (now (b .entry)) (rows (λ i. processor-bytes (getD firsts (8 + i) 0) (processor-in processors i)) 1 p) ⌝ }
 {
     if b.len() < 12 * (p as usize) {
         return;
@@ -90,11 +99,15 @@ pub(crate) fn put_processors(b: &mut [u8], p: u8, processors: [Processor; 9])
     while i < p {
         let at = 12 * (i as usize);
         i += 1;
-        put_processor(&mut b[at..], access::processor_at(processors, i));
+        put_processor(
+            &mut b[at..],
+            own_first(firsts, i),
+            access::processor_at(processors, i),
+        );
     }
 }
 
-pub(crate) fn put_mutexes(b: &mut [u8], m: u8, firsts: [u8; 9], mutexes: [Mutex; 9])
+pub(crate) fn put_mutexes(b: &mut [u8], m: u8, firsts: [u8; 17], mutexes: [Mutex; 9])
     ensures { λ _. ⌜ now (b .exit) ≡ over (now (b .entry)) (rows (λ i. mutex-bytes (getD firsts i 0) (mutex-in mutexes i)) 1 m) ⌝ }
 {
     if b.len() < 8 * (m as usize) {
@@ -140,8 +153,16 @@ pub fn put(b: &mut [u8], s: State) -> u8
     if b.len() < threads_at + 4 * (s.t as usize) {
         return TOO_SHORT;
     }
-    put_header(b, s.p, s.t, s.m, chain::first_at(firsts, 0), s.applied);
-    put_processors(&mut b[8..], s.p, processors);
+    put_header(
+        b,
+        s.p,
+        s.t,
+        s.m,
+        chain::first_at(firsts, 0),
+        s.applied,
+        s.stealing,
+    );
+    put_processors(&mut b[8..], s.p, firsts, processors);
     put_mutexes(&mut b[mutexes_at..], s.m, firsts, mutexes);
     put_threads(&mut b[threads_at..], s.t, threads);
     0

@@ -1,4 +1,7 @@
 -- Laws of the record.
+pub mod Branch
+pub mod Begun
+pub mod Numbers
 pub mod Past
 pub mod Model
 pub mod Fill

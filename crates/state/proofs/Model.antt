@@ -9,7 +9,7 @@ use Rattle.state.specs.declared.Thread.{Thread}
 use Rattle.state.specs.declared.Chains.{Chains}
 use Rattle.state.specs.declared.queues.Taken.the-variants as answer
 use Rattle.state.specs.Record.{thread-in}
-use Rattle.state.specs.Model.{next-of, status-in, queued-in, linked-to, last-from, taken, joined}
+use Rattle.state.specs.Model.{next-of, queued-in, linked-to, last-from, taken, joined}
 
 module _ (ts : List Thread) where
   pub last-none : (k : ℕ) → last-from ts 0 k ≡ k
@@ -24,12 +24,6 @@ module _ (ts : List Thread) where
   pub last-on : (fuel k : ℕ) → (next-of ts k ≡ 0 → ⊥) → last-from ts (suc fuel) k ≡ last-from ts fuel (next-of ts k)
   unfolding last-from
   last-on fuel k e = simp (ne-eqb (next-of ts k) 0 e)
-
-pub status-ready : status-in 0 ≡ 1
-status-ready = refl
-
-pub status-waiting : (q : ℕ) → (q ≡ 0 → ⊥) → status-in q ≡ 2
-status-waiting q e = simp (ne-eqb q 0 e)
 
 module _ (c : Chains) (q : ℕ) where
   pub taken-none : getD (c .firsts) q 0 ≡ 0 → taken c q ≡ answer.Nothing

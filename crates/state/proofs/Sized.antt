@@ -14,13 +14,13 @@ use Rattle.state.proofs.Session as session
 pub record Sized (r : State) : Type 0 where
   pub processors : length (r .processors) ≡ 9
   pub mutexes : length (r .mutexes) ≡ 9
-  pub firsts : length (r .chains .firsts) ≡ 9
+  pub firsts : length (r .chains .firsts) ≡ 17
   pub threads : length (r .chains .threads) ≡ 33
 
 -- of a parameter `self`, the first of a function: `sized (c .good .0)`; of a call's result: `sized (c .f .ok)`
 pub sized : {r : State} {vs : List Val} → shadow (row state.the-type .own r vs) → Sized r
 sized {r} g =
-    let fields = g .1 .1 .1 .1 .1 .1 in
+    let fields = g .1 .1 .1 .1 .1 .1 .1 in
     record {
       processors = sym (length-map (r .processors) _) ∙ fields .1 .0 .1 .0 .1;
       mutexes = sym (length-map (r .mutexes) _) ∙ fields .1 .1 .0 .1 .0 .1;

@@ -1,18 +1,12 @@
--- Tables: when two are the same, what a search in one finds, and what stands first and behind in a list of numbers in order.
+-- Tables: when two are the same, and what a search in one finds.
 -- Assumes nothing.
-use Prim.Native.Nat.{ℕ, zero, suc, _+_, _-_, _≤_, _<_}
+use Prim.Native.Nat.{ℕ, zero, suc, _+_, _≤_, _<_}
 use mathlib.Core.Bool.{Bool, true, false}
 use mathlib.Core.List.{List, _∷_}
 use mathlib.Core.Path.{_≡_, refl, ap, _∙_}
-use native.Mathlib.Numerals.{add-one}
 use native.Mathlib.Omega.{arith}
-use native.Mathlib.Decide.{ℕ-discrete}
-use lib.Dec.{ltb}
 use lib.ListN.{replicate}
-use borrow.Author.Tests.{eq-eqb, ne-eqb, lt-ltb, le-ltb}
-use Rattle.reference.specs.Lists.{tabulate, find, choose}
-use Rattle.reference.specs.Start.{itself}
-use Rattle.reference.specs.Snapshot.{first, behind}
+use Rattle.reference.specs.Lists.{tabulate, find}
 
 module _ {A : Type 0} where
   pub tabulate-more : (f : ℕ → A) (a n : ℕ) → tabulate f a (suc n) ≡ f a ∷ tabulate f (suc a) n
@@ -58,26 +52,3 @@ module _ {A : Type 0} where
       find-first n zero r l e h = absurd (omega arith)
       find-first n (suc j) r l e h =
           find-on 1 n j l (ap (λ (i : ℕ). test (f i)) (let z : 1 + j ≡ suc j = omega arith in z) ∙ e) (λ i x y. h i x (omega arith))
-
--- ---- the numbers from a to b
-
-pub first-itself : (p b : ℕ) → choose (ltb p b) (p + 1) 0 ≡ first (tabulate itself (suc p) (b - p))
-unfolding tabulate
-first-itself p b = go (b - p) refl
-  where
-    go : (n : ℕ) → b - p ≡ n → choose (ltb p b) (p + 1) 0 ≡ first (tabulate itself (suc p) n)
-    go zero e = rw (le-ltb p b (omega arith))
-    go (suc n) e = rw (lt-ltb p b (omega arith), add-one p)
-
-pub behind-itself : (k b a n : ℕ) → a ≤ k → k ≤ b → a + n ≡ suc b → behind k (tabulate itself a n) ≡ choose (ltb k b) (k + 1) 0
-unfolding tabulate behind
-behind-itself k b a zero x y e = absurd (omega arith)
-behind-itself k b a (suc n) x y e =
-    elim (ℕ-discrete a k) [
-      | yes z ↦ rw (eq-eqb a k z) (here n e z)
-      | no z ↦ rw (ne-eqb a k z) (behind-itself k b (suc a) n (omega arith) y (omega arith))
-    ]
-  where
-    here : (n : ℕ) → a + suc n ≡ suc b → a ≡ k → first (tabulate itself (suc a) n) ≡ choose (ltb k b) (k + 1) 0
-    here zero e z = rw (le-ltb k b (omega arith))
-    here (suc n) e z = rw (lt-ltb k b (omega arith), add-one k) (ap suc z)

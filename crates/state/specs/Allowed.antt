@@ -8,7 +8,7 @@ use Rattle.state.specs.Association.{encode}
 use Rattle.state.specs.Rules.{fields-ok, every}
 use Rattle.reference.specs.Lists.{in-range}
 use Rattle.reference.specs.State as reference
-use Rattle.reference.specs.State.{live, same-life, life-at, mutex-at}
+use Rattle.reference.specs.State.{live, same-life, life-at, queues, queue-at, mutex-at}
 use Rattle.reference.specs.Safe.{In, one-if, held}
 
 pub record Allowed (s : reference.State) : Type 0 where
@@ -16,10 +16,12 @@ pub record Allowed (s : reference.State) : Type 0 where
   pub processors : length (s .processors) ≡ s .P
   pub mutexes : length (s .mutexes) ≡ s .M
   pub lives : length (s .lives) ≡ s .T
+  -- one ready queue, or one for each processor
+  pub count : length (s .ready) ≡ queues (s .stealing) (s .P)
   -- the fields and registers are as the rules want them
   pub fields : fields-ok (encode s) ≡ true
   -- the queues hold threads
-  pub ready : every (in-range 1 (s .T)) (s .ready) ≡ true
+  pub ready : (i : ℕ) → In (length (s .ready)) i → every (in-range 1 (s .T)) (queue-at s i) ≡ true
   pub queues : (m : ℕ) → In (s .M) m → every (in-range 1 (s .T)) (mutex-at s m .queue) ≡ true
   -- each thread has exactly one place: held once, or new, or terminated
   pub one-place : (k : ℕ) → In (s .T) k → held s k + one-if (not (same-life (life-at s k) live)) ≡ 1

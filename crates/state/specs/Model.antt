@@ -1,8 +1,8 @@
 -- What the code's reads and writes of a record compute: a model that only inner contracts cite; nobody needs to believe it.
 -- Assumes nothing.
-use Prim.Native.Nat.{ℕ, zero, suc, _+_, _*_}
+use Prim.Native.Nat.{ℕ, zero, suc, _+_, _-_, _*_}
 use mathlib.Core.List.{List, [], _∷_}
-use lib.Dec.{eqb, leb, ltb}
+use lib.Dec.{eqb, leb}
 use lib.ListN.{getD, set, replicate}
 use Rattle.state.specs.declared.Thread.{Thread}
 use Rattle.state.specs.declared.Processor.{Processor}
@@ -13,7 +13,9 @@ use Rattle.state.specs.declared.queues.Taken.{Taken}
 use Rattle.state.specs.declared.queues.Taken.the-variants as answer
 use Rattle.state.specs.declared.queues.Taken.the-variants.{Nothing}
 use Rattle.state.specs.Record.{zero-thread, zero-mutex, zero-token, thread-in}
-use Rattle.reference.specs.Lists.{choose, in-range, tabulate}
+use Rattle.state.specs.Association.{ready-index, queued-as}
+use Rattle.reference.specs.Lists.{choose, if-zero, around, in-range, tabulate}
+use Rattle.reference.specs.State.{queues}
 
 -- ---- the record with one part replaced
 
@@ -23,6 +25,7 @@ with-processor p r s =
       p = s .p;
       t = s .t;
       m = s .m;
+      stealing = s .stealing;
       applied = s .applied;
       chains = s .chains;
       processors = set (s .processors) p r;
@@ -35,6 +38,7 @@ with-mutex m x s =
       p = s .p;
       t = s .t;
       m = s .m;
+      stealing = s .stealing;
       applied = s .applied;
       chains = s .chains;
       processors = s .processors;
@@ -47,6 +51,7 @@ with-chains c s =
       p = s .p;
       t = s .t;
       m = s .m;
+      stealing = s .stealing;
       applied = s .applied;
       chains = c;
       processors = s .processors;
@@ -59,6 +64,7 @@ with-applied n s =
       p = s .p;
       t = s .t;
       m = s .m;
+      stealing = s .stealing;
       applied = n;
       chains = s .chains;
       processors = s .processors;
@@ -70,13 +76,9 @@ with-applied n s =
 abbrev pub next-of : List Thread → ℕ → ℕ
 next-of ts k = thread-in ts k .next
 
--- the status of the threads of queue q: 1 in the ready queue, 2 in that of a mutex
-abbrev pub status-in : ℕ → ℕ
-status-in q = choose (eqb q 0) 1 2
-
 -- a thread of queue q that ends its chain
 abbrev pub queued-in : ℕ → Thread
-queued-in q = record { status = status-in q; holder = q; next = 0 }
+queued-in q = queued-as q 0
 
 abbrev pub linked-to : ℕ → Thread → Thread
 linked-to k t = record { status = t .status; holder = t .holder; next = k }
@@ -144,31 +146,39 @@ joined-threads f b q k =
 -- ---- the start state
 
 abbrev pub standing-at : ℕ → ℕ → Processor
-standing-at l k = record { position = l; current = k; transit = 0; mutex = 0; observed = zero-token; sequence = 0; answer = 0 }
+standing-at l k = record { position = l; current = k; transit = 0; mutex = 0; observed = zero-token; sequence = 0; answer = 0; probe = 0 }
 
 -- processor i of p, where threads 1 to b are created: at App with thread i, or at CI2 without one
 unfoldable pub first-processor : ℕ → ℕ → ℕ → Processor
 first-processor p b i = choose (in-range 1 p i) (choose (leb i b) (standing-at 0 i) (standing-at 1 0)) (standing-at 0 0)
 
--- thread k of the b that are created: on processor k, or in the ready queue before thread k + 1
-unfoldable pub first-thread : ℕ → ℕ → ℕ → Thread
-first-thread p b k =
+-- the index of the ready queue in which thread k starts
+unfoldable pub first-index : ℕ → ℕ → ℕ → ℕ
+first-index p stealing k = choose (in-range 1 8 p) (ready-index stealing (around p k)) 0
+
+-- thread k of the b that are created: on processor k, or in a ready queue before the thread that is as many places on as there are queues
+unfoldable pub first-thread : ℕ → ℕ → ℕ → ℕ → Thread
+first-thread p b stealing k =
     choose (in-range 1 b k)
-    (choose (leb k p) (record { status = 3; holder = k; next = 0 }) (record { status = 1; holder = 0; next = choose (ltb k b) (k + 1) 0 }))
+    (choose (leb k p) (record { status = 3; holder = k; next = 0 })
+    (queued-as (first-index p stealing k) (choose (leb (k + queues stealing p) b) (k + queues stealing p) 0)))
     zero-thread
 
--- the first of the ready queue
-abbrev pub first-ready : ℕ → ℕ → ℕ
-first-ready p b = choose (ltb p b) (p + 1) 0
+-- the first of queue q: thread p + i of the i-th ready queue
+unfoldable pub first-first : ℕ → ℕ → ℕ → ℕ → ℕ
+first-first p b stealing q =
+    if-zero stealing (choose (eqb q 0) (choose (leb (p + 1) b) (p + 1) 0) 0)
+    (choose (in-range 9 (8 + p) q) (choose (leb (p + (q - 8)) b) (p + (q - 8)) 0) 0)
 
-unfoldable pub start-record : ℕ → ℕ → ℕ → ℕ → State
-start-record p t m b =
+unfoldable pub start-record : ℕ → ℕ → ℕ → ℕ → ℕ → State
+start-record p t m b stealing =
     record {
       p = p;
       t = t;
       m = m;
+      stealing = stealing;
       applied = 0;
-      chains = record { firsts = set (replicate 9 0) 0 (first-ready p b); threads = tabulate (first-thread p b) 0 33 };
+      chains = record { firsts = tabulate (first-first p b stealing) 0 17; threads = tabulate (first-thread p b stealing) 0 33 };
       processors = tabulate (first-processor p b) 0 9;
       mutexes = replicate 9 zero-mutex;
     }

@@ -17,7 +17,7 @@ abbrev pub zero-token : Token
 zero-token = record { processor = 0; sequence = 0 }
 
 abbrev pub zero-processor : Processor
-zero-processor = record { position = 0; current = 0; transit = 0; mutex = 0; observed = zero-token; sequence = 0; answer = 0 }
+zero-processor = record { position = 0; current = 0; transit = 0; mutex = 0; observed = zero-token; sequence = 0; answer = 0; probe = 0 }
 
 abbrev pub zero-mutex : Mutex
 zero-mutex = record { count = 0; owner = 0; token = zero-token }
@@ -29,8 +29,9 @@ zero-state =
       p = 0;
       t = 0;
       m = 0;
+      stealing = 0;
       applied = 0;
-      chains = record { firsts = replicate 9 0; threads = replicate 33 zero-thread };
+      chains = record { firsts = replicate 17 0; threads = replicate 33 zero-thread };
       processors = replicate 9 zero-processor;
       mutexes = replicate 9 zero-mutex;
     }

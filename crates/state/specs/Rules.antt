@@ -1,6 +1,6 @@
 -- "Picture": the rules that a picture keeps, over the record that its fields are, in the order of their numbers 12, 13 and 14; and the rule of a session's record, 15.
 -- Assumes nothing.
-use Prim.Native.Nat.{ℕ, _+_}
+use Prim.Native.Nat.{ℕ, _+_, _-_, _*_}
 use mathlib.Core.Bool.{Bool, true, _&&_, _||_, not}
 use mathlib.Core.List.{List, [], _∷_}
 use lib.Dec.{eqb, leb, ltb}
@@ -12,9 +12,10 @@ use Rattle.state.specs.declared.State.{State}
 use Rattle.state.specs.declared.Session.{Session}
 use Rattle.state.specs.Record.{thread-of, processor-of, mutex-of, first-of, chain}
 use Rattle.reference.specs.Refusal.{bad-field, bad-chain, bad-holder, refuse}
-use Rattle.reference.specs.Lists.{choose, in-range, each}
-use Rattle.reference.specs.State.{row, line-of}
+use Rattle.reference.specs.Lists.{choose, if-zero, in-range, each}
+use Rattle.reference.specs.State.{queues, row, probes, line-of}
 use Rattle.reference.specs.Snapshot.{stands-in}
+use Rattle.state.specs.Association.{queued-as}
 
 -- the test holds of each member
 unfoldable pub every : (ℕ → Bool) → List ℕ → Bool
@@ -40,41 +41,57 @@ token-ok p t =
 abbrev pub register-ok : ℕ → ℕ → ℕ → Bool
 register-ok column top n = choose (eqb column 1) (in-range 1 top n) (eqb n 0)
 
--- in what follows p, t and m are how many processors, threads and mutexes there are
-unfoldable pub processor-ok : ℕ → ℕ → ℕ → Processor → Bool
-processor-ok p t m x =
+-- CI2 alone has a look number, 0 to n − 1 where there are n ready queues
+abbrev pub probe-ok : ℕ → ℕ → ℕ → Bool
+probe-ok n position probe = leb probe ((n - 1) * probes (line-of position))
+
+-- in what follows p, t and m are how many processors, threads and mutexes there are, n is how many ready queues
+unfoldable pub processor-ok : ℕ → ℕ → ℕ → ℕ → Processor → Bool
+processor-ok p t m n x =
     leb (x .position) 24 && register-ok (row (line-of (x .position)) .current) t (x .current) &&
     register-ok (row (line-of (x .position)) .transit) t (x .transit) && register-ok (row (line-of (x .position)) .mutex) m (x .mutex) &&
     register-ok (row (line-of (x .position)) .observed) p (x .observed .processor) && token-ok p (x .observed) &&
-    leb (x .sequence) 4000 && leb (x .answer) 2
+    leb (x .sequence) 4000 && leb (x .answer) 2 && probe-ok n (x .position) (x .probe)
 
-unfoldable pub mutex-ok : ℕ → ℕ → ℕ → Mutex → Bool
-mutex-ok p t first x = leb (x .count) (t + 1) && leb first t && leb (x .owner) t && token-ok p (x .token)
+unfoldable pub mutex-ok : ℕ → ℕ → Mutex → Bool
+mutex-ok p t x = leb (x .count) (t + 1) && leb (x .owner) t && token-ok p (x .token)
 
--- status 2 names a mutex, 3 and 4 a processor, the others nobody
-abbrev pub holder-ok : ℕ → ℕ → Thread → Bool
-holder-ok p m x =
+-- status 2 names a mutex, 3 and 4 a processor, 1 one where each has its queue, the others nobody
+abbrev pub holder-ok : ℕ → ℕ → ℕ → Thread → Bool
+holder-ok p m stealing x =
     choose (eqb (x .status) 2) (in-range 1 m (x .holder))
-    (choose (eqb (x .status) 3 || eqb (x .status) 4) (in-range 1 p (x .holder)) (eqb (x .holder) 0))
+    (choose (eqb (x .status) 3 || eqb (x .status) 4 || eqb (x .status) 1 && eqb stealing 1) (in-range 1 p (x .holder)) (eqb (x .holder) 0))
 
 -- next is 0 outside statuses 1 and 2
 abbrev pub next-ok : ℕ → Thread → Bool
 next-ok t x = choose (eqb (x .status) 1 || eqb (x .status) 2) (leb (x .next) t) (eqb (x .next) 0)
 
-unfoldable pub thread-ok : ℕ → ℕ → ℕ → Thread → Bool
-thread-ok p t m x = leb (x .status) 5 && holder-ok p m x && next-ok t x
+unfoldable pub thread-ok : ℕ → ℕ → ℕ → ℕ → Thread → Bool
+thread-ok p t m stealing x = leb (x .status) 5 && holder-ok p m stealing x && next-ok t x
+
+-- queue q is there: the single ready queue or those of the processors, and those of the mutexes
+abbrev pub is-queue-of : ℕ → ℕ → ℕ → ℕ → Bool
+is-queue-of p m stealing q = in-range 1 m q || if-zero stealing (eqb q 0) (in-range 9 (8 + p) q)
+
+abbrev pub is-queue : State → ℕ → Bool
+is-queue r q = is-queue-of (r .p) (r .m) (r .stealing) q
+
+-- its first is a thread or none, and one that is not there has none
+abbrev pub first-ok : ℕ → ℕ → ℕ → ℕ → ℕ → ℕ → Bool
+first-ok p t m stealing q first = leb first (choose (is-queue-of p m stealing q) t 0)
 
 unfoldable pub fields-ok : State → Bool
 fields-ok r =
-    sizes-ok r && leb (r .applied) 4000 && leb (first-of r 0) (r .t) && each (λ p. processor-ok (r .p) (r .t) (r .m) (processor-of r p)) 1 (r .p) &&
-    each (λ m. mutex-ok (r .p) (r .t) (first-of r m) (mutex-of r m)) 1 (r .m) &&
-    each (λ k. thread-ok (r .p) (r .t) (r .m) (thread-of r k)) 1 (r .t)
+    sizes-ok r && leb (r .stealing) 1 && leb (r .applied) 4000 && each (λ q. first-ok (r .p) (r .t) (r .m) (r .stealing) q (first-of r q)) 0 17 &&
+    each (λ p. processor-ok (r .p) (r .t) (r .m) (queues (r .stealing) (r .p)) (processor-of r p)) 1 (r .p) &&
+    each (λ m. mutex-ok (r .p) (r .t) (mutex-of r m)) 1 (r .m) &&
+    each (λ k. thread-ok (r .p) (r .t) (r .m) (r .stealing) (thread-of r k)) 1 (r .t)
 
 -- ---- 13: chains. `thread` gives the thread of a number, `t` is how many there are.
 
--- the thread is placed in queue q: status 1 in the ready queue, 2 with that mutex in another
+-- the thread is placed in queue q: its status and holder are those of a thread of that queue
 abbrev pub placed-in : Thread → ℕ → Bool
-placed-in x q = eqb (x .status) (choose (eqb q 0) 1 2) && eqb (x .holder) q
+placed-in x q = eqb (x .status) (queued-as q 0 .status) && eqb (x .holder) (queued-as q 0 .holder)
 
 -- the threads that the chain meets: one more than there can be, so that a chain that does not end meets one twice
 abbrev pub met : (ℕ → Thread) → ℕ → List ℕ
@@ -86,12 +103,12 @@ chain-ok thread t q first =
     no-twice (met thread first) && every (λ k. placed-in (thread k) q) (met thread first) &&
     each (λ k. not (placed-in (thread k) q) || stands-in k (met thread first)) 1 t
 
--- queue 0 and the queue of each of m mutexes; `first` gives the first of a queue
-abbrev pub chains-in : (ℕ → Thread) → (ℕ → ℕ) → ℕ → ℕ → Bool
-chains-in thread first m t = each (λ q. chain-ok thread t q (first q)) 0 (m + 1)
+-- all 17 queues, those that are not there being empty; `first` gives the first of a queue
+abbrev pub chains-in : (ℕ → Thread) → (ℕ → ℕ) → ℕ → Bool
+chains-in thread first t = each (λ q. chain-ok thread t q (first q)) 0 17
 
 unfoldable pub chains-ok : State → Bool
-chains-ok r = chains-in (thread-of r) (first-of r) (r .m) (r .t)
+chains-ok r = chains-in (thread-of r) (first-of r) (r .t)
 
 -- ---- 14: current and transit registers against statuses 3 and 4
 
@@ -120,7 +137,8 @@ zero-token? t = eqb (t .processor) 0 && eqb (t .sequence) 0
 
 abbrev pub zero-processor? : Processor → Bool
 zero-processor? x =
-    eqb (x .position) 0 && eqb (x .current) 0 && eqb (x .transit) 0 && eqb (x .mutex) 0 && zero-token? (x .observed) && eqb (x .sequence) 0 && eqb (x .answer) 0
+    eqb (x .position) 0 && eqb (x .current) 0 && eqb (x .transit) 0 && eqb (x .mutex) 0 && zero-token? (x .observed) && eqb (x .sequence) 0 && eqb (x .answer) 0 &&
+    eqb (x .probe) 0
 
 abbrev pub zero-mutex? : Mutex → Bool
 zero-mutex? x = eqb (x .count) 0 && eqb (x .owner) 0 && zero-token? (x .token)
@@ -135,7 +153,7 @@ within-or n i test = in-range 1 n i || test
 unfoldable pub zero-past : State → Bool
 zero-past r =
     each (λ p. within-or (r .p) p (zero-processor? (processor-of r p))) 0 9 && each (λ m. within-or (r .m) m (zero-mutex? (mutex-of r m))) 0 9 &&
-    each (λ q. leb q (r .m) || eqb (first-of r q) 0) 0 9 && each (λ k. within-or (r .t) k (zero-thread? (thread-of r k))) 0 33
+    each (λ k. within-or (r .t) k (zero-thread? (thread-of r k))) 0 33
 
 unfoldable pub state-ok : State → Bool
 state-ok r = eqb (broken-rule r) 0 && zero-past r

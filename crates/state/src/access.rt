@@ -25,6 +25,7 @@ impl Processor {
             },
             sequence: 0,
             answer: 0,
+            probe: 0,
         }
     }
 }

@@ -1,4 +1,4 @@
-// The chains' arrays at any index: past the end a read gives zero and a write does nothing. Queue 0 is the ready queue, queue m that of mutex m.
+// The chains' arrays at any index: past the end a read gives zero and a write does nothing. Queue 0 is the single ready queue, m that of mutex m, 8 + p the ready queue of processor p.
 ghost use mathlib.Core.Path.{_≡_};
 ghost use lib.ListN.{getD, set};
 ghost use Rattle.state.specs.Record.{thread-in};
@@ -22,19 +22,19 @@ pub fn with_thread(threads: [Thread; 33], k: u8, t: Thread) -> [Thread; 33]
     next
 }
 
-pub fn first_at(firsts: [u8; 9], q: u8) -> u8
+pub fn first_at(firsts: [u8; 17], q: u8) -> u8
     ensures { λ r. ⌜ r ≡ getD firsts q 0 ⌝ }
 {
     let i = q as usize;
-    if i < 9 { firsts[i] } else { 0 }
+    if i < 17 { firsts[i] } else { 0 }
 }
 
-pub fn with_first(firsts: [u8; 9], q: u8, k: u8) -> [u8; 9]
+pub fn with_first(firsts: [u8; 17], q: u8, k: u8) -> [u8; 17]
     ensures { λ r. ⌜ r ≡ set firsts q k ⌝ }
 {
     let i = q as usize;
     let mut next = firsts;
-    if i < 9 {
+    if i < 17 {
         next[i] = k;
     }
     next

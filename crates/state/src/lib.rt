@@ -65,7 +65,7 @@ pub struct Token {
     pub sequence: u16,
 }
 
-// current: the loaded thread; transit: the hand; observed: the seen token; sequence: its own rank.
+// current: the loaded thread; transit: the hand; observed: the seen token; sequence: its own rank; look: the look number, at CI2.
 pub struct Processor {
     pub position: u8,
     pub current: u8,
@@ -74,6 +74,7 @@ pub struct Processor {
     pub observed: Token,
     pub sequence: u16,
     pub answer: u8,
+    pub probe: u8,
 }
 
 pub struct Mutex {
@@ -82,24 +83,26 @@ pub struct Mutex {
     pub token: Token,
 }
 
-// status: the place, 0 new, 1 ready, 2 waiting, 3 current, 4 transit, 5 terminated; holder: its mutex (2) or processor (3, 4); next: the next in its queue.
+// status: the place, 0 new, 1 ready, 2 waiting, 3 current, 4 transit, 5 terminated; holder: its mutex (2) or processor (3, 4, and 1 where each has its queue); next: the next in its queue.
 pub struct Thread {
     pub status: u8,
     pub holder: u8,
     pub next: u8,
 }
 
-// The queues as chains: the first of queue q, 0 being the ready queue and m that of mutex m, and each thread with its next.
+// The queues as chains: the first of queue q, and each thread with its next. Queue 0 is the single ready queue, m that of mutex m, 8 + p the ready queue of processor p.
 pub struct Chains {
-    pub firsts: [u8; 9],
+    pub firsts: [u8; 17],
     pub threads: [Thread; 33],
 }
 
 // Index 0 of each array stands for no processor, mutex or thread and stays zero, as does what lies past P, M and T.
+// stealing: 0 for a single ready queue, 1 for one for each processor.
 pub struct State {
     pub p: u8,
     pub t: u8,
     pub m: u8,
+    pub stealing: u8,
     pub applied: u16,
     pub chains: Chains,
     pub processors: [Processor; 9],

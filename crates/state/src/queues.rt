@@ -3,6 +3,7 @@ ghost use mathlib.Core.Path.{_≡_};
 ghost use Prim.Native.Nat.{_+_, _*_};
 ghost use lib.ListN.{getD, set};
 ghost use Rattle.reference.specs.Lists.{tabulate};
+ghost use Rattle.reference.specs.State.{queues};
 ghost use Rattle.state.specs.Model.{queued-in, found, bytes-of, thread-from, with-thread, last-in, joined-firsts, joined-threads};
 use crate::Thread;
 
@@ -80,10 +81,24 @@ fn last_in(threads: &[u8], first: u8) -> u8
     at
 }
 
-// A thread of queue q that ends its chain.
-fn queued_in(q: u8) -> Thread
+// How many ready queues there are: one for all, or one for each of n processors.
+pub fn ready_queues(stealing: u8, n: u8) -> u8
+    ensures { λ r. ⌜ r ≡ queues stealing n ⌝ }
+{
+    if stealing == 0 { 1 } else { n }
+}
+
+// A thread of queue q that ends its chain: queue 0 is the single ready queue, 1 to 8 are the mutexes', 8 + p is the ready queue of processor p.
+pub fn queued_in(q: u8) -> Thread
     ensures { λ r. ⌜ r ≡ queued-in q ⌝ }
 {
+    if 8 < q {
+        return Thread {
+            status: 1,
+            holder: q - 8,
+            next: 0,
+        };
+    }
     let status = if q == 0 { 1 } else { 2 };
     Thread {
         status,

@@ -22,14 +22,15 @@ use Rattle.step.specs.declared.View.{View}
 use Rattle.step.specs.declared.Effect.{Effect}
 use Rattle.step.specs.declared.Moved.{Moved}
 use Rattle.step.specs.declared.Run.{Run}
-use Rattle.step.specs.Model.{target-of, view-of, seen-of, carried, carried-firsts, carried-threads, act-effect, up-to, gathered-of, cause-of, step-breaks-of, refusal-of, stepped-of, moved-of, moved-at, sizes-of, refusal-seen, go-refusal, call-refusal, breaks-at, ran, run-from, run-of, noted, noted-at, counted-from, counted-of}
+use Rattle.step.specs.declared.Sizes.{Sizes}
+use Rattle.step.specs.Model.{target-of, index-of, view-of, seen-of, carried, carried-firsts, carried-threads, act-effect, up-to, gathered-of, cause-of, step-breaks-of, refusal-of, stepped-of, moved-of, moved-at, sizes-of, refusal-seen, go-refusal, call-refusal, breaks-at, ran, run-from, run-of, noted, noted-at, counted-from, counted-of}
 use Rattle.step.proofs.Put.{carried-first, carried-bytes, length-firsts, length-threads}
 
 -- ---- what a move sees
 
 pub seen-view : (s : State) (p m : ℕ) →
-    seen-of (s .chains .firsts) (bytes-of (s .chains .threads)) p (processor-of s p) m (mutex-of s m) ≡ view-of s p m
-seen-view s p m = rw (found-taken (s .chains) m, found-taken (s .chains) 0)
+    seen-of (s .chains .firsts) (bytes-of (s .chains .threads)) (s .stealing) (s .p) p (processor-of s p) m (mutex-of s m) ≡ view-of s p m
+seen-view s p m = rw (found-taken (s .chains) m, found-taken (s .chains) (index-of (s .stealing) (s .p) p (processor-of s p)))
 
 -- ---- why it is refused
 
@@ -73,6 +74,15 @@ pub refusal-is : (s : State) (p a o : ℕ) →
     refusal-seen (sizes-of s) (view-of s p (target-of a (processor-of s p .mutex) o)) (thread-of s o .status) a o ≡ refusal-of s p a o
 refusal-is s p zero o = refusal-go s p o
 refusal-is s p (suc a) o = refusal-call s p (suc a) o (λ e. omega arith)
+
+-- no other move than a create asks for a status
+pub status-only : (z : Sizes) (v : View) (n a o : ℕ) → refusal-seen z v (choose (eqb a 6) n 0) a o ≡ refusal-seen z v n a o
+unfolding refusal-seen call-refusal
+status-only z v n a o = by (eqb a 6) refl
+  where
+    by : (t : Bool) → eqb a 6 ≡ t → refusal-seen z v (choose (eqb a 6) n 0) a o ≡ refusal-seen z v n a o
+    by true e = rw e
+    by false e = rw e
 
 -- ---- what it makes
 
@@ -212,7 +222,7 @@ moved-is s p a o = by (eqb (refusal-of s p a o) 0) refl
 pub record Running (start : State) (j first : List ℕ) (i : ℕ) (s : State) (calls f b : List ℕ) (ps : List Processor) (xs : List Mutex) : Type 0 where
   pub threads : List Thread
   pub bytes : b ≡ bytes-of threads
-  pub firsts-size : length f ≡ 9
+  pub firsts-size : length f ≡ 17
   pub threads-size : length threads ≡ 33
   pub processors-size : length ps ≡ 9
   pub mutexes-size : length xs ≡ 9
@@ -263,7 +273,7 @@ module _ (start : State) (j first : List ℕ) (i : ℕ) (s : State) (calls f b :
     o = getD j (3 * i + 2) 0
 
     module _ (r : Processor) (m : ℕ) (x : Mutex) (v : View) (r-is : r ≡ processor-in ps p) (m-is : m ≡ target-of a (r .mutex) o)
-        (x-is : x ≡ mutex-in xs m) (v-is : v ≡ seen-of f b p r m x) where
+        (x-is : x ≡ mutex-in xs m) (v-is : v ≡ seen-of f b (s .stealing) (s .p) p r m x) where
       target-is : m ≡ target-of a (processor-of record-of p .mutex) o
       target-is = m-is ∙ ap (λ (q : Processor). target-of a (q .mutex) o) r-is
 

@@ -16,7 +16,8 @@ use Rattle.state.specs.declared.queues.Taken.the-variants.{Thread, Nothing}
 use Rattle.state.specs.Record.{zero-token, processor-of, mutex-of, thread-of}
 use Rattle.state.specs.Model.{found, with-thread, joined-firsts, joined-threads, taken, removed, joined, placed, with-processor, with-mutex, with-chains, with-applied}
 use Rattle.reference.specs.Refusal.{refuse}
-use Rattle.reference.specs.Lists.{choose, in-range}
+use Rattle.reference.specs.Lists.{choose, if-zero, in-range, around}
+use Rattle.reference.specs.State.{queues}
 use Rattle.step.specs.declared.View.{View}
 use Rattle.step.specs.declared.Effect.{Effect}
 use Rattle.step.specs.declared.Moved.{Moved}
@@ -39,32 +40,36 @@ same-tokens a b = eqb (a .processor) (b .processor) && eqb (a .sequence) (b .seq
 
 abbrev pub observing : ℕ → Token → Processor → Processor
 observing n t r =
-    record { position = n; current = r .current; transit = r .transit; mutex = r .mutex; observed = t; sequence = r .sequence; answer = r .answer }
+    record { position = n; current = r .current; transit = r .transit; mutex = r .mutex; observed = t; sequence = r .sequence; answer = r .answer; probe = r .probe }
 
 abbrev pub on-mutex : ℕ → Processor → Processor
 on-mutex n r = observing n zero-token r
 
 abbrev pub away : ℕ → Processor → Processor
 away n r =
-    record { position = n; current = r .current; transit = r .transit; mutex = 0; observed = zero-token; sequence = r .sequence; answer = r .answer }
+    record { position = n; current = r .current; transit = r .transit; mutex = 0; observed = zero-token; sequence = r .sequence; answer = r .answer; probe = r .probe }
 
 -- the current and the transit register
 abbrev pub threads : ℕ → ℕ → Processor → Processor
 threads c t r =
-    record { position = r .position; current = c; transit = t; mutex = r .mutex; observed = r .observed; sequence = r .sequence; answer = r .answer }
+    record { position = r .position; current = c; transit = t; mutex = r .mutex; observed = r .observed; sequence = r .sequence; answer = r .answer; probe = r .probe }
 
 abbrev pub sequenced : ℕ → Processor → Processor
 sequenced n r =
-    record { position = r .position; current = r .current; transit = r .transit; mutex = r .mutex; observed = r .observed; sequence = n; answer = r .answer }
+    record { position = r .position; current = r .current; transit = r .transit; mutex = r .mutex; observed = r .observed; sequence = n; answer = r .answer; probe = r .probe }
 
 abbrev pub answering : ℕ → Processor → Processor
 answering n r =
-    record { position = r .position; current = r .current; transit = r .transit; mutex = r .mutex; observed = r .observed; sequence = r .sequence; answer = n }
+    record { position = r .position; current = r .current; transit = r .transit; mutex = r .mutex; observed = r .observed; sequence = r .sequence; answer = n; probe = r .probe }
 
 -- a call: its mutex, and answer 0
 abbrev pub calling : ℕ → Processor → Processor
 calling m r =
-    record { position = r .position; current = r .current; transit = r .transit; mutex = m; observed = r .observed; sequence = r .sequence; answer = 0 }
+    record { position = r .position; current = r .current; transit = r .transit; mutex = m; observed = r .observed; sequence = r .sequence; answer = 0; probe = r .probe }
+
+abbrev pub probing : ℕ → Processor → Processor
+probing n r =
+    record { position = r .position; current = r .current; transit = r .transit; mutex = r .mutex; observed = r .observed; sequence = r .sequence; answer = r .answer; probe = n }
 
 abbrev pub counted : ℕ → Mutex → Mutex
 counted n x = record { count = n; owner = x .owner; token = x .token }
@@ -74,6 +79,22 @@ owned k x = record { count = x .count; owner = k; token = x .token }
 
 abbrev pub tokened : Token → Mutex → Mutex
 tokened t x = record { count = x .count; owner = x .owner; token = t }
+
+-- one more on a ring of n, back to 0 after n − 1
+abbrev pub next-probe : ℕ → ℕ → ℕ
+next-probe n probe = choose (ltb probe (n - 1)) (probe + 1) 0
+
+-- the look number, which CI2 alone reads
+abbrev pub probed : Processor → ℕ
+probed r = choose (eqb (r .position) 1) (r .probe) 0
+
+-- the index of the ready queue that is l places after that of processor p of n, going round
+abbrev pub on-ring : ℕ → ℕ → ℕ → ℕ
+on-ring n p l = choose ((in-range 1 8 n && in-range 1 n p) && ltb l n) (8 + around n (p + l)) 0
+
+-- the index of the ready queue that processor p of n, which is r, works on: 0 for the single one
+abbrev pub index-of : ℕ → ℕ → ℕ → Processor → ℕ
+index-of stealing n p r = if-zero stealing 0 (on-ring n p (probed r))
 
 -- ---- effects
 
@@ -88,7 +109,7 @@ abbrev pub unload : View → Processor
 unload v = threads 0 (v .proc .current) (v .proc)
 
 abbrev pub join-ready : ℕ → View → Effect
-join-ready n v = effect (away n (threads (v .proc .current) 0 (v .proc))) (v .mutex) (Join 0 (v .proc .transit))
+join-ready n v = effect (away n (threads (v .proc .current) 0 (v .proc))) (v .mutex) (Join (v .index) (v .proc .transit))
 
 abbrev pub serve : ℕ → ℕ → ℕ → View → Effect
 serve k rest n v = effect (on-mutex n (threads (v .proc .current) k (v .proc))) (owned k (v .mutex)) (Take (v .proc .mutex) k rest)
@@ -102,8 +123,8 @@ on-taken (Thread k rest) a f = f k rest
 
 unfoldable pub at-CI2 : View → Effect
 at-CI2 v =
-    on-taken (v .ready) (effect (away 1 (v .proc)) (v .mutex) Stay)
-    (λ k rest. effect (away 2 (threads (v .proc .current) k (v .proc))) (v .mutex) (Take 0 k rest))
+    on-taken (v .ready) (effect (away 1 (probing (next-probe (v .queues) (v .proc .probe)) (v .proc))) (v .mutex) Stay)
+    (λ k rest. effect (away 2 (probing 0 (threads (v .proc .current) k (v .proc)))) (v .mutex) (Take (v .index) k rest))
 
 unfoldable pub at-CI3 : View → Effect
 at-CI3 v = load v
@@ -265,6 +286,10 @@ cause-of s p a o =
 abbrev pub nothing-there : Taken → Bool
 nothing-there q = on-taken q true (λ k rest. false)
 
+-- the lines at which a step may break a rule
+abbrev pub may-break : ℕ → Bool
+may-break n = eqb n 15 || (eqb n 3 || eqb n 14) || eqb n 18 || eqb n 9
+
 abbrev pub breaks-at : ℕ → View → Bool
 breaks-at t v =
     eqb (v .proc .position) 15 && eqb (v .mutex .count) 0 || (eqb (v .proc .position) 3 || eqb (v .proc .position) 14) && ltb t (v .mutex .count) ||
@@ -276,7 +301,16 @@ abbrev pub target-of : ℕ → ℕ → ℕ → ℕ
 target-of a m o = choose (in-range 1 3 a) o m
 
 abbrev pub view-of : State → ℕ → ℕ → View
-view-of s p m = record { number = p; proc = processor-of s p; mutex = mutex-of s m; queue = taken (s .chains) m; ready = taken (s .chains) 0 }
+view-of s p m =
+    record {
+      number = p;
+      proc = processor-of s p;
+      mutex = mutex-of s m;
+      queue = taken (s .chains) m;
+      ready = taken (s .chains) (index-of (s .stealing) (s .p) p (processor-of s p));
+      index = index-of (s .stealing) (s .p) p (processor-of s p);
+      queues = queues (s .stealing) (s .p);
+    }
 
 abbrev pub carried : Chains → ℕ → Transfer → Chains
 carried c p Stay = c
@@ -320,14 +354,17 @@ unfoldable pub refusal-seen : Sizes → View → ℕ → ℕ → ℕ → ℕ
 refusal-seen z v status a o =
     refuse (not (in-range 1 (z .p) (v .number))) 2 (choose (eqb a 0) (go-refusal z v o) (call-refusal z v status a o))
 
-abbrev pub seen-of : List ℕ → List ℕ → ℕ → Processor → ℕ → Mutex → View
-seen-of f b p r m x =
+abbrev pub seen-of : List ℕ → List ℕ → ℕ → ℕ → ℕ → Processor → ℕ → Mutex → View
+seen-of f b stealing n p r m x =
+    let q = index-of stealing n p r in
     record {
       number = p;
       proc = r;
       mutex = x;
       queue = found (getD f m 0) (getD b (3 * getD f m 0 + 2) 0);
-      ready = found (getD f 0 0) (getD b (3 * getD f 0 0 + 2) 0);
+      ready = found (getD f q 0) (getD b (3 * getD f q 0 + 2) 0);
+      index = q;
+      queues = queues stealing n;
     }
 
 abbrev pub carried-firsts : List ℕ → Transfer → List ℕ
@@ -349,6 +386,7 @@ gathered-of s firsts threads processors mutexes n =
       p = s .p;
       t = s .t;
       m = s .m;
+      stealing = s .stealing;
       applied = n;
       chains = record { firsts = firsts; threads = threads };
       processors = processors;

@@ -16,13 +16,16 @@ use state::Processor;
 use state::State;
 use state::queues::Taken;
 
-// What a processor sees: its number, its registers, its mutex, and what taking from that mutex's queue and from the ready queue finds.
+// What a processor sees: its number, its registers, its mutex, what taking from that mutex's queue and from the ready queue that it works on finds,
+// that ready queue's index, and how many ready queues there are.
 pub struct View {
     pub number: u8,
     pub proc: Processor,
     pub mutex: Mutex,
     pub queue: Taken,
     pub ready: Taken,
+    pub index: u8,
+    pub queues: u8,
 }
 
 // How a move changes the queues. Take(q, k, rest): the front thread k of queue q goes to the transit register, and rest is the first of what remains.

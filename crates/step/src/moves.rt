@@ -2,7 +2,7 @@
 ghost use mathlib.Core.Path.{_≡_};
 ghost use Rattle.reference.specs.Lists.{tabulate};
 ghost use Rattle.state.specs.Model.{thread-from};
-ghost use Rattle.step.specs.Model.{target-of, seen-of, carried-firsts, carried-threads, gathered-of, ran, run-of, counted-of, moved-of};
+ghost use Rattle.step.specs.Model.{target-of, probed, on-ring, index-of, seen-of, carried-firsts, carried-threads, gathered-of, ran, run-of, counted-of, moved-of};
 use crate::Moved;
 use crate::Run;
 use crate::Status;
@@ -18,6 +18,7 @@ use crate::registers::mutex_by_fields;
 use crate::registers::up_wide;
 use state::Chains;
 use state::Mutex;
+use state::Position;
 use state::Processor;
 use state::State;
 use state::Thread;
@@ -28,6 +29,7 @@ use state::queues::join;
 use state::queues::next_in;
 use state::queues::put;
 use state::queues::put_thread;
+use state::queues::ready_queues;
 use state::queues::status_in;
 use state::queues::threads_of;
 
@@ -42,13 +44,57 @@ pub(crate) fn target(action: u8, mutex: u8, operand: u8) -> u8
     }
 }
 
-// What processor p, which is r, sees of mutex m, which is x, and of the queues.
-pub(crate) fn look(firsts: &[u8], threads: &[u8], p: u8, r: Processor, m: u8, x: Mutex) -> View
-    ensures { λ v. ⌜ v ≡ seen-of (now (firsts .entry)) (now (threads .entry)) p r m x ⌝ }
+// The look number of a processor at CI2, which alone reads it; elsewhere 0.
+fn probed(r: Processor) -> u8
+    ensures { λ x. ⌜ x ≡ probed r ⌝ }
 {
+    if r.position == Position::CI2 {
+        r.probe
+    } else {
+        0
+    }
+}
+
+// The index of the ready queue that is l places after that of processor p of n, going round.
+fn on_ring(n: u8, p: u8, l: u8) -> u8
+    ensures { λ q. ⌜ q ≡ on-ring n p l ⌝ }
+{
+    let there = in_range(1, 8, n) & in_range(1, n, p) & (l < n);
+    if there {
+        let i = p + l;
+        return if i <= n { 8 + i } else { 8 + (i - n) };
+    }
+    0
+}
+
+// The index of the ready queue that processor p of n, which is r, works on.
+fn index_of(stealing: u8, n: u8, p: u8, r: Processor) -> u8
+    ensures { λ q. ⌜ q ≡ index-of stealing n p r ⌝ }
+{
+    if stealing == 0 {
+        return 0;
+    }
+    on_ring(n, p, probed(r))
+}
+
+// What processor p of n, which is r, sees of mutex m, which is x, and of the queues.
+pub(crate) fn look(
+    firsts: &[u8],
+    threads: &[u8],
+    stealing: u8,
+    n: u8,
+    p: u8,
+    r: Processor,
+    m: u8,
+    x: Mutex,
+) -> View
+    ensures { λ v. ⌜ v ≡ seen-of (now (firsts .entry)) (now (threads .entry)) stealing n p r m x ⌝ }
+{
+    let index = index_of(stealing, n, p, r);
+    let queues = ready_queues(stealing, n);
     let waiting = get(firsts, m as usize);
     let after = next_in(threads, waiting);
-    let first = get(firsts, 0);
+    let first = get(firsts, index as usize);
     let next = next_in(threads, first);
     let queue = found(waiting, after);
     let ready = found(first, next);
@@ -58,6 +104,8 @@ pub(crate) fn look(firsts: &[u8], threads: &[u8], p: u8, r: Processor, m: u8, x:
         mutex: x,
         queue,
         ready,
+        index,
+        queues,
     }
 }
 
@@ -98,7 +146,7 @@ fn ended(
     refusal: u8,
     made: usize,
     mut s: State,
-    firsts: [u8; 9],
+    firsts: [u8; 17],
     bytes: &[u8],
     processors: [Processor; 9],
     mutexes: [Mutex; 9],
@@ -142,9 +190,14 @@ pub fn run(mut s: State, moves: &[u8], calls: &mut [u16]) -> Run
         let m = target(action, r.mutex, operand);
         let j = m as usize;
         let x = mutex_by_fields(if j < 9 { mutexes[j] } else { free });
-        let v = look(&firsts, &bytes, p, r, m, x);
+        let v = look(&firsts, &bytes, s.stealing, s.p, p, r, m, x);
         let z = sizes(s.p, s.t, s.m, s.applied);
-        let refusal = cause(z, v, status_in(&bytes, operand), action, operand);
+        let status = if action == 6 {
+            status_in(&bytes, operand)
+        } else {
+            0
+        };
+        let refusal = cause(z, v, status, action, operand);
         if refusal != 0 {
             return ended(refusal, made, s, firsts, &bytes, processors, mutexes);
         }

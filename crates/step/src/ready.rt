@@ -8,11 +8,12 @@ use crate::View;
 use crate::registers::away;
 use crate::registers::join_ready;
 use crate::registers::load;
+use crate::registers::next_probe;
 use crate::registers::stays;
 use state::Position;
 use state::queues::Taken;
 
-// CI2: the ready queue is empty: stay. Else its first goes to the transit register; CI3.
+// CI2: the ready queue that it looks at is empty: stay, and look at the next. Else its first goes to the transit register, the look number is 0; CI3.
 pub(crate) fn ci2(v: View) -> Effect
     ensures { λ e. ⌜ e ≡ at-CI2 v ⌝ }
 {
@@ -20,13 +21,16 @@ pub(crate) fn ci2(v: View) -> Effect
     let x = v.mutex;
     let ready = v.ready;
     let Taken::Thread(k, rest) = ready else {
+        let n = next_probe(v.queues, r.probe);
+        r.probe = n;
         return stays(away(r, Position::CI2), x);
     };
     r.transit = k;
+    r.probe = 0;
     Effect {
         proc: away(r, Position::CI3),
         mutex: x,
-        transfer: Transfer::Take(0, k, rest),
+        transfer: Transfer::Take(v.index, k, rest),
     }
 }
 

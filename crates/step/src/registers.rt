@@ -2,7 +2,7 @@
 ghost use mathlib.Core.Path.{_≡_};
 ghost use Prim.Native.Nat.{_-_};
 ghost use Rattle.state.specs.Record.{zero-token};
-ghost use Rattle.step.specs.Model.{up-to, same-tokens, away, on-mutex, observing, tokened, effect, load, join-ready, serve};
+ghost use Rattle.step.specs.Model.{up-to, next-probe, same-tokens, away, on-mutex, observing, tokened, effect, load, join-ready, serve};
 use crate::Effect;
 use crate::Status;
 use crate::Transfer;
@@ -31,6 +31,13 @@ pub(crate) fn down(n: u8) -> u8
     ensures { λ r. ⌜ r ≡ n - 1 ⌝ }
 {
     if 0 < n { n - 1 } else { 0 }
+}
+
+// The next look number on a ring of n: back to 0 after n - 1.
+pub(crate) fn next_probe(n: u8, probe: u8) -> u8
+    ensures { λ r. ⌜ r ≡ next-probe n probe ⌝ }
+{
+    if probe < down(n) { probe + 1 } else { 0 }
 }
 
 pub(crate) fn same(a: Token, b: Token) -> bool
@@ -67,6 +74,7 @@ pub(crate) fn away(r: Processor, position: u8) -> Processor
         },
         sequence: r.sequence,
         answer: r.answer,
+        probe: r.probe,
     }
 }
 
@@ -99,6 +107,7 @@ pub(crate) fn observing(r: Processor, position: u8, token: Token) -> Processor
         },
         sequence: r.sequence,
         answer: r.answer,
+        probe: r.probe,
     }
 }
 
@@ -151,7 +160,7 @@ pub(crate) fn load(v: View) -> Effect
     }
 }
 
-// The thread in transit joins the ready queue, and the processor stands at a line that has no mutex.
+// The thread in transit joins the ready queue that the processor works on, and the processor stands at a line that has no mutex.
 pub(crate) fn join_ready(v: View, position: u8) -> Effect
     ensures { λ e. ⌜ e ≡ join-ready position v ⌝ }
 {
@@ -162,7 +171,7 @@ pub(crate) fn join_ready(v: View, position: u8) -> Effect
     Effect {
         proc: away(r, position),
         mutex: x,
-        transfer: Transfer::Join(0, k),
+        transfer: Transfer::Join(v.index, k),
     }
 }
 

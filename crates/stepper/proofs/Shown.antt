@@ -11,11 +11,11 @@ use borrow.Author.Tests.{eq-eqb, ne-eqb, ltb-false}
 use Rattle.command.specs.Command.{decimal}
 use Rattle.command.specs.Printing.{hex}
 use Rattle.state.specs.declared.State.{State}
-use Rattle.state.specs.Record.{processor-of}
-use Rattle.state.specs.Association.{decode, processor-shown, mutex-shown}
+use Rattle.state.specs.Association.{decode, mutex-shown}
 use Rattle.state.specs.Rules.{state-ok}
 use Rattle.reference.specs.Lists.{tabulate}
-use Rattle.reference.specs.Snapshot.{concat, processor-bytes, mutex-bytes, entry-bytes, thread-entry, picture}
+use Rattle.reference.specs.Start.{itself}
+use Rattle.reference.specs.Snapshot.{concat, processor-record, mutex-bytes, entry-bytes, thread-entry, picture}
 use Rattle.reference.proofs.Tests.{passed}
 use Rattle.snapshot.specs.Snapshot.{picture-length, write-refusal, written}
 use Rattle.stepper.specs.Program.{shown}
@@ -39,7 +39,7 @@ unfolding picture decode
 long r =
     simp (
       length-append,
-      records-length processor-bytes 12 (λ x. refl) (λ p. processor-shown (processor-of r p)) 1 (r .p),
+      records-length (processor-record (decode r)) 12 (λ x. refl) itself 1 (r .p),
       records-length mutex-bytes 8 (λ x. refl) (mutex-shown r) 1 (r .m),
       records-length entry-bytes 4 (λ x. refl) (thread-entry (decode r)) 1 (r .t),
     )

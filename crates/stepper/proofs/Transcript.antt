@@ -12,7 +12,7 @@ use Rattle.command.specs.Command.{decimal, command-of}
 use Rattle.command.specs.Printing.{hex, put-into, put-end}
 use Rattle.command.specs.Line.{empty-line, fed, command-in, feed-all}
 use Rattle.command.specs.declared.Command.{Command}
-use Rattle.command.specs.declared.Command.the-variants.{Start, Move, Back, Show, Unknown}
+use Rattle.command.specs.declared.Command.the-variants.{Start, StartWith, Move, Back, Show, Unknown}
 use Rattle.command.specs.declared.line.Line.{Line}
 use Rattle.command.proofs.Lines.{decimal-length}
 use Rattle.command.proofs.Put.{hex-length}
@@ -49,6 +49,7 @@ number-length n = omega (arith, decimal-length n)
 pub reply-length : (c : Command) (k : Talk) → length (reply c k) ≤ 592
 unfolding reply
 reply-length (Start p t m b) k = number-length _
+reply-length (StartWith p t m b c) k = number-length _
 reply-length (Move p a o) k = choice-length (k .begun) _ question (number-length _) (omega arith)
 reply-length Back k = choice-length (k .begun) _ question (number-length _) (omega arith)
 reply-length Show k = choice-length (k .begun) _ question (shown-length _) (omega arith)

@@ -7,7 +7,7 @@ use lib.Dec.{eqb}
 use Rattle.command.specs.Command.{decimal, command-of}
 use Rattle.command.specs.Printing.{hex}
 use Rattle.command.specs.declared.Command.{Command}
-use Rattle.command.specs.declared.Command.the-variants.{Start, Move, Back, Show, Unknown}
+use Rattle.command.specs.declared.Command.the-variants.{Start, StartWith, Move, Back, Show, Unknown}
 use Rattle.state.specs.declared.Session.{Session}
 use Rattle.state.specs.declared.State.{State}
 use Rattle.state.specs.Association.{decode}
@@ -31,9 +31,10 @@ question = 63 ∷ []
 unfoldable pub shown : State → List ℕ
 shown r = cond (eqb (write-refusal r 296) 0) (hex (picture (decode r))) (decimal (write-refusal r 296))
 
--- what a line prints: 0 or the refusal, the picture, or `?`
+-- what a line prints: 0 or the refusal, the picture, or `?`. A start's fifth number, left out, is 0.
 unfoldable pub reply : Command → Talk → List ℕ
-reply (Start p t m b) k = decimal (started (table p t m b) .refusal)
+reply (Start p t m b) k = decimal (started (table p t m b 0) .refusal)
+reply (StartWith p t m b c) k = decimal (started (table p t m b c) .refusal)
 reply (Move p a o) k = cond (k .begun) (decimal (moved (k .session) (k .journal) (move-of p a o) .refusal)) question
 reply Back k = cond (k .begun) (decimal (undone (k .session) (k .journal) .refusal)) question
 reply Show k = cond (k .begun) (shown (k .session .state)) question
@@ -49,7 +50,8 @@ talk-of begun a j = record { begun = begun; session = a .session; journal = j }
 
 -- what a line leaves; a refused move or step back answers the record that it was handed
 unfoldable pub after : Command → Talk → Talk
-after (Start p t m b) k = begun-by (started (table p t m b)) k
+after (Start p t m b) k = begun-by (started (table p t m b 0)) k
+after (StartWith p t m b c) k = begun-by (started (table p t m b c)) k
 after (Move p a o) k =
     cond (k .begun) (talk-of (k .begun) (moved (k .session) (k .journal) (move-of p a o)) (journal-after (k .session) (k .journal) (move-of p a o))) k
 after Back k = cond (k .begun) (talk-of (k .begun) (undone (k .session) (k .journal)) (k .journal)) k

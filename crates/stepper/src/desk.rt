@@ -27,9 +27,9 @@ pub struct Desk {
 }
 
 pub fn new() -> Desk
-    ensures { λ r. ⌜ r ≡ record { begun = false; session = started (table 0 0 0 0) .session; len = 0 } ⌝ }
+    ensures { λ r. ⌜ r ≡ record { begun = false; session = started (table 0 0 0 0 0) .session; len = 0 } ⌝ }
 {
-    let none = session::start(0, 0, 0, 0);
+    let none = session::start(0, 0, 0, 0, 0);
     let session = none.session;
     Desk {
         begun: false,
@@ -97,11 +97,11 @@ fn show(desk: Desk, out: &mut [u8]) -> Desk
 }
 
 // A refused start keeps the old session.
-fn start(desk: Desk, out: &mut [u8], p: u8, t: u8, m: u8, b: u8) -> Desk
-    ensures { λ r. ⌜ ((j : List ℕ) → talk r j ≡ begun-by (started (table p t m b)) (talk desk j)) ⌝ }
-    ensures { λ r. ⌜ page (now (out .exit)) (r .len) ≡ page-line (page (now (out .entry)) (desk .len)) (decimal (started (table p t m b) .refusal)) ⌝ }
+fn start(desk: Desk, out: &mut [u8], p: u8, t: u8, m: u8, b: u8, stealing: u8) -> Desk
+    ensures { λ r. ⌜ ((j : List ℕ) → talk r j ≡ begun-by (started (table p t m b stealing)) (talk desk j)) ⌝ }
+    ensures { λ r. ⌜ page (now (out .exit)) (r .len) ≡ page-line (page (now (out .entry)) (desk .len)) (decimal (started (table p t m b stealing) .refusal)) ⌝ }
 {
-    let answer = session::start(p, t, m, b);
+    let answer = session::start(p, t, m, b, stealing);
     let refusal = answer.refusal;
     let mut next = desk;
     next.len = reply(out, desk.len, refusal);
@@ -147,7 +147,8 @@ pub fn answer(desk: Desk, journal: &mut [u8], line: Line, out: &mut [u8]) -> Des
     let command = line.command();
     let begun = desk.begun;
     match command {
-        Command::Start(p, t, m, b) => start(desk, out, p, t, m, b),
+        Command::Start(p, t, m, b) => start(desk, out, p, t, m, b, 0),
+        Command::StartWith(p, t, m, b, stealing) => start(desk, out, p, t, m, b, stealing),
         Command::Move(p, a, o) => if begun {
             step(desk, journal, out, p, a, o)
         } else {

@@ -22,11 +22,11 @@ use state::State;
 
 const BAD_SCRIPT: u8 = 19;
 
-// Begins a session whose threads have scripts: P processors, T threads, M mutexes, B threads created at first.
-pub fn start(p: u8, t: u8, m: u8, b: u8, scripts: &[u8]) -> Answer
-    ensures { λ r. ⌜ r ≡ scripted (table p t m b) (now (scripts .entry)) ⌝ }
+// Begins a session whose threads have scripts: P processors, T threads, M mutexes, B threads created at first; stealing as in session::start.
+pub fn start(p: u8, t: u8, m: u8, b: u8, stealing: u8, scripts: &[u8]) -> Answer
+    ensures { λ r. ⌜ r ≡ scripted (table p t m b stealing) (now (scripts .entry)) ⌝ }
 {
-    let begun = session::start(p, t, m, b);
+    let begun = session::start(p, t, m, b, stealing);
     if begun.refusal != 0 {
         return begun;
     }

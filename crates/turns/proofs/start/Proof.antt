@@ -11,14 +11,14 @@ returns : tie.Need-returns
 returns c =
     let a = c .before .before .before .before .args in
     let s = c .before .before .start in
-    start-refused (table (a .p) (a .t) (a .m) (a .b)) (a .scripts .now) (s .result) (s .ensures) (c .if1 .taken)
+    start-refused (table (a .p) (a .t) (a .m) (a .b) (a .stealing)) (a .scripts .now) (s .result) (s .ensures) (c .if1 .taken)
 
 returns-2 : tie.Need-returns-2
 returns-2 c =
     let i = c .before .before in
     let a = i .before .before .before .before .args in
     let s = i .before .before .start in
-    start-taken (table (a .p) (a .t) (a .m) (a .b)) (a .scripts .now) (s .result) (s .ensures) (i .if1 .left) (sym (c .before .scripts-ok .ensures) ∙ c .if2 .taken)
+    start-taken (table (a .p) (a .t) (a .m) (a .b) (a .stealing)) (a .scripts .now) (s .result) (s .ensures) (i .if1 .left) (sym (c .before .scripts-ok .ensures) ∙ c .if2 .taken)
 
 returns-3 : tie.Need-returns-3
 returns-3 c =
@@ -27,7 +27,7 @@ returns-3 c =
     let a = i .before .before .before .before .args in
     let s = i .before .before .start in
     rw (c .zero .ensures)
-    (start-unscripted (table (a .p) (a .t) (a .m) (a .b)) (a .scripts .now) (s .result) (s .ensures) (i .if1 .left) (sym (e .before .scripts-ok .ensures) ∙ e .if2 .left))
+    (start-unscripted (table (a .p) (a .t) (a .m) (a .b) (a .stealing)) (a .scripts .now) (s .result) (s .ensures) (i .if1 .left) (sym (e .before .scripts-ok .ensures) ∙ e .if2 .left))
 
 pub start-spec : {M : Type 1} → statement M
 start-spec = tie.close (tie.spec (λ c κs. search needs) returns (λ c κs. search needs) returns-2 (λ c κs. search needs) returns-3)

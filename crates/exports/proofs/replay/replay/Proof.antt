@@ -12,7 +12,7 @@ cast-next c =
     let t = c .before .before .before .before .before .before .before in
     let s = c .before .before .before .before .before .start in
     let r = c .before .before .before .run in
-    let table = table (t .args .p) (t .args .t) (t .args .m) (t .args .b) in
+    let table = table (t .args .p) (t .args .t) (t .args .m) (t .args .b) (t .args .stealing) in
     omega (arith, ends-most table (t .pre) (t .args .moves .now) (s .result) (s .ensures) (r .result) (r .ensures .0))
 
 add-next : tie.Need-add-next
@@ -20,7 +20,7 @@ add-next c =
     let t = c .before .before .before .before .before .before .before in
     let s = c .before .before .before .before .before .start in
     let r = c .before .before .before .run in
-    let table = table (t .args .p) (t .args .t) (t .args .m) (t .args .b) in
+    let table = table (t .args .p) (t .args .t) (t .args .m) (t .args .b) (t .args .stealing) in
     omega (arith, ends-most table (t .pre) (t .args .moves .now) (s .result) (s .ensures) (r .result) (r .ensures .0))
 
 returns : tie.Need-returns
@@ -28,7 +28,7 @@ returns c =
     let t = c .before .before .before .before .before .before .before .before in
     let s = c .before .before .before .before .before .before .start in
     let r = c .before .before .before .before .run in
-    let table = table (t .args .p) (t .args .t) (t .args .m) (t .args .b) in
+    let table = table (t .args .p) (t .args .t) (t .args .m) (t .args .b) (t .args .stealing) in
     ends-refused table (t .pre) (t .args .moves .now) (s .result) (s .ensures) (r .result) (r .ensures .0) (c .if1 .taken)
 
 returns-2 : tie.Need-returns-2
@@ -36,7 +36,7 @@ returns-2 c =
     let t = c .before .before .before .before .before .before .before .before .before in
     let s = c .before .before .before .before .before .before .before .start in
     let r = c .before .before .before .before .before .run in
-    let table = table (t .args .p) (t .args .t) (t .args .m) (t .args .b) in
+    let table = table (t .args .p) (t .args .t) (t .args .m) (t .args .b) (t .args .stealing) in
     ends-over table (t .pre) (t .args .moves .now) (s .result) (s .ensures) (r .result) (r .ensures .0) (c .before .if1 .left) (c .if2 .taken)
 
 returns-3 : tie.Need-returns-3
@@ -44,7 +44,7 @@ returns-3 c =
     let t = c .before .before .before .before .before .before .before .before .before in
     let s = c .before .before .before .before .before .before .before .start in
     let r = c .before .before .before .before .before .run in
-    let table = table (t .args .p) (t .args .t) (t .args .m) (t .args .b) in
+    let table = table (t .args .p) (t .args .t) (t .args .m) (t .args .b) (t .args .stealing) in
     ends-all table (t .pre) (t .args .moves .now) (s .result) (s .ensures) (r .result) (r .ensures .0) (c .before .if1 .left) (c .if2 .left)
 
 pub replay-spec : {M : Type 1} → statement M

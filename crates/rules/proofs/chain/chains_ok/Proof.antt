@@ -12,7 +12,7 @@ returns : tie.Need-returns
 returns c =
     let a = c .before .before .before .before .args in
     rw (c .before .none-missed .ensures, c .before .before .walk-queues .ensures)
-    (check-is-rule (thread-in-bytes (a .threads .now)) (bytes-small (a .threads .now)) (λ q. getD (a .firsts) q 0) (a .m) (a .t))
+    (check-is-rule (thread-in-bytes (a .threads .now)) (bytes-small (a .threads .now)) (λ q. getD (a .firsts) q 0) (a .t))
 
 pub chains-ok-spec : {M : Type 1} → statement M
 chains-ok-spec = tie.close (tie.spec (λ c κs. search needs) (λ c κs. search needs) returns)

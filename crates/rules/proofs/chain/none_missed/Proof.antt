@@ -11,10 +11,10 @@ use Rattle.rules.proofs.chain.none_missed.Statement.{statement}
 use Rattle.rules.proofs.chain.none_missed.Tie as tie
 
 abbrev Inv-loop : tie.InvT-loop
-Inv-loop threads met m t ok₀ k₀ ok k = (k ≤ t) × (ok ≡ none-missed (thread-in-bytes threads) met m k)
+Inv-loop threads met t ok₀ k₀ ok k = (k ≤ t) × (ok ≡ none-missed (thread-in-bytes threads) met k)
 
 abbrev μ-loop : tie.MeasureT-loop
-μ-loop threads met m t ok₀ k₀ ok k = t - k
+μ-loop threads met t ok₀ k₀ ok k = t - k
 
 loop-holds : tie.Need-loop-holds Inv-loop μ-loop
 loop-holds c = (omega arith, sym (each-none _ 1))

@@ -16,7 +16,7 @@ returns c =
     let size : length (a .threads) ≡ 33 = search needs in
     c .chains-ok .ensures ∙
     rw (c .before .before .record-bytes .ensures)
-    (chains-agree (thread-in-bytes (record-bytes (a .threads) 32)) (thread-in (a .threads)) (record-threads (a .threads) size) (λ q. getD (a .firsts) q 0) (a .m) (a .t))
+    (chains-agree (thread-in-bytes (record-bytes (a .threads) 32)) (thread-in (a .threads)) (record-threads (a .threads) size) (λ q. getD (a .firsts) q 0) (a .t))
 
 pub record-chains-ok-spec : {M : Type 1} → statement M
 record-chains-ok-spec =

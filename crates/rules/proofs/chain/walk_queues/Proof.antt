@@ -12,10 +12,10 @@ use Rattle.rules.proofs.chain.walk_queues.Statement.{statement}
 use Rattle.rules.proofs.chain.walk_queues.Tie as tie
 
 abbrev Inv-loop : tie.InvT-loop
-Inv-loop threads firsts m ok₀ met₀ q₀ ok met q = (q ≤ m) × (walked ok met ≡ walk-queues (thread-in-bytes threads) (λ j. getD firsts j 0) q)
+Inv-loop threads firsts ok₀ met₀ q₀ ok met q = (q ≤ 16) × (walked ok met ≡ walk-queues (thread-in-bytes threads) (λ j. getD firsts j 0) q)
 
 abbrev μ-loop : tie.MeasureT-loop
-μ-loop threads firsts m ok₀ met₀ q₀ ok met q = m - q
+μ-loop threads firsts ok₀ met₀ q₀ ok met q = 16 - q
 
 loop-holds : tie.Need-loop-holds Inv-loop μ-loop
 loop-holds c = (omega arith, rw (queues-none, ← c .before .first-at .ensures) (c .walk .ensures))
@@ -25,8 +25,8 @@ loop-again c = (omega arith, queues-next _ _ _ _ _ _ _ (c .before .before .befor
 
 returns : tie.Need-returns Inv-loop μ-loop
 returns c =
-    let e : c .before .loop .q ≡ c .before .before .before .before .before .args .m = omega arith in
-    rw (← e) (c .before .loop .inv .1)
+    let e : c .before .loop .q ≡ 16 = omega arith in
+    rw e at (c .before .loop .inv .1)
 
 pub walk-queues-spec : {M : Type 1} → statement M
 walk-queues-spec =

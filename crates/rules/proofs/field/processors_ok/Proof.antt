@@ -15,10 +15,10 @@ use Rattle.rules.proofs.field.processors_ok.Statement.{statement}
 use Rattle.rules.proofs.field.processors_ok.Tie as tie
 
 abbrev Inv-loop : tie.InvT-loop
-Inv-loop p t m processors ok₀ i₀ ok i = (i ≤ p) × (ok ≡ each (λ j. processor-ok p t m (processor-in processors j)) 1 i)
+Inv-loop p t m n processors ok₀ i₀ ok i = (i ≤ p) × (ok ≡ each (λ j. processor-ok p t m n (processor-in processors j)) 1 i)
 
 abbrev μ-loop : tie.MeasureT-loop
-μ-loop p t m processors ok₀ i₀ ok i = p - i
+μ-loop p t m n processors ok₀ i₀ ok i = p - i
 
 loop-holds : tie.Need-loop-holds Inv-loop μ-loop
 loop-holds c = (omega arith, sym (each-none _ 1))
@@ -27,9 +27,9 @@ loop-again : tie.Need-loop-again Inv-loop μ-loop
 loop-again c =
     let a = c .before .before .before .before .args in
     let l = c .before .before .before .loop in
-    let size : length (a .t4) ≡ 9 = search needs in
-    let r : c .before .if1 .x ≡ processor-in (a .t4) (l .i + 1) =
-    ⊎-elim (λ w. w .2) (λ w. w .2 ∙ w .1 .ensures ∙ read-past (a .t4) 9 (l .i + 1) size (w .0 .left) zero-processor) (c .before .if1 .came)
+    let size : length (a .t5) ≡ 9 = search needs in
+    let r : c .before .if1 .x ≡ processor-in (a .t5) (l .i + 1) =
+    ⊎-elim (λ w. w .2) (λ w. w .2 ∙ w .1 .ensures ∙ read-past (a .t5) 9 (l .i + 1) size (w .0 .left) zero-processor) (c .before .if1 .came)
     in
     (omega arith, each-next _ _ _ _ (l .inv .1) (rw (← r) (c .processor-ok .ensures)))
 

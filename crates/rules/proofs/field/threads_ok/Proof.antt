@@ -15,10 +15,10 @@ use Rattle.rules.proofs.field.threads_ok.Statement.{statement}
 use Rattle.rules.proofs.field.threads_ok.Tie as tie
 
 abbrev Inv-loop : tie.InvT-loop
-Inv-loop p t m threads ok₀ k₀ ok k = (k ≤ t) × (ok ≡ each (λ j. thread-ok p t m (thread-in threads j)) 1 k)
+Inv-loop p t m stealing threads ok₀ k₀ ok k = (k ≤ t) × (ok ≡ each (λ j. thread-ok p t m stealing (thread-in threads j)) 1 k)
 
 abbrev μ-loop : tie.MeasureT-loop
-μ-loop p t m threads ok₀ k₀ ok k = t - k
+μ-loop p t m stealing threads ok₀ k₀ ok k = t - k
 
 loop-holds : tie.Need-loop-holds Inv-loop μ-loop
 loop-holds c = (omega arith, sym (each-none _ 1))
@@ -27,9 +27,9 @@ loop-again : tie.Need-loop-again Inv-loop μ-loop
 loop-again c =
     let a = c .before .before .before .before .args in
     let l = c .before .before .before .loop in
-    let size : length (a .t4) ≡ 33 = search needs in
-    let r : c .before .if1 .x ≡ thread-in (a .t4) (l .k + 1) =
-    ⊎-elim (λ w. w .2) (λ w. w .2 ∙ w .1 .ensures ∙ read-past (a .t4) 33 (l .k + 1) size (w .0 .left) zero-thread) (c .before .if1 .came)
+    let size : length (a .t5) ≡ 33 = search needs in
+    let r : c .before .if1 .x ≡ thread-in (a .t5) (l .k + 1) =
+    ⊎-elim (λ w. w .2) (λ w. w .2 ∙ w .1 .ensures ∙ read-past (a .t5) 33 (l .k + 1) size (w .0 .left) zero-thread) (c .before .if1 .came)
     in
     (omega arith, each-next _ _ _ _ (l .inv .1) (rw (← r) (c .thread-ok .ensures)))
 

@@ -20,7 +20,7 @@ returns c =
     let s = c .before .before .before .before .before .before .before .start in
     let t = c .before .before .before .before .before .before .before .before .before .before in
     let a = t .args in (
-      rw (ran .ensures .0) (replayed (table (a .p) (a .t) (a .m) (a .b)) (t .pre .0) (a .n) (a .journal .now) (t .pre .1) (s .result) (s .ensures)),
+      rw (ran .ensures .0) (replayed (table (a .p) (a .t) (a .m) (a .b) (a .stealing)) (t .pre .0) (a .n) (a .journal .now) (t .pre .1) (s .result) (s .ensures)),
       rw (ran .ensures .1, s .ensures),
     )
 

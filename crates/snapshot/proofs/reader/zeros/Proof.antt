@@ -8,19 +8,15 @@ use Rattle.snapshot.proofs.reader.zeros.Tie as tie
 returns : tie.Need-returns
 unfolding zeros-with
 returns c =
-    let m = c .before .before .before .before in
-    let p = m .before .before .before in
+    let m = c .before .before .before in
     rw (
-      c .byte5 .ensures,
-      c .before .byte4 .ensures,
-      c .before .before .threads-zero .ensures,
-      c .before .before .before .byte3 .ensures,
+      c .byte4 .ensures,
+      c .before .threads-zero .ensures,
+      c .before .before .byte3 .ensures,
       m .mutexes-zero .ensures,
       m .before .byte2 .ensures,
-      m .before .before .from2 .ensures,
-      p .processors-zero .ensures,
-      p .before .from .ensures,
-      p .before .before .byte .ensures,
+      m .before .before .from .ensures,
+      m .before .before .before .byte .ensures,
     )
 
 pub zeros-spec : {M : Type 1} → statement M
@@ -28,12 +24,9 @@ zeros-spec =
     tie.close
     (tie.spec
     (λ c κs. search needs)
-    (λ c κs. search needs)
-    (λ c κs. search needs)
     (λ c. search needs)
     (λ c. search needs)
     (λ c. search needs)
-    (λ c κs. search needs)
     (λ c κs. search needs)
     (λ c κs. search needs)
     (λ c κs. search needs)

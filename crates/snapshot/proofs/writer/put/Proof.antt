@@ -29,7 +29,7 @@ returns-2 c =
     let s = i .before .before .before .before .before .before .before .before .before .before in
     let r = s .args .s in (
       sym (rw (le-ltb _ _ (i .if1 .left))),
-      four (now (s .args .b)) (header-bytes (r .p) (r .t) (r .m) (first-of r 0) (r .applied)) (processors-bytes r) (mutexes-bytes r) (threads-bytes r)
+      four (now (s .args .b)) (header-bytes (r .p) (r .t) (r .m) (first-of r 0) (r .applied) (r .stealing)) (processors-bytes r) (mutexes-bytes r) (threads-bytes r)
           (h .put-header .last .0) (p .put-processors .last .0) (m .put-mutexes .last .0) (t .put-threads .last .0) 8 (8 + 12 * r .p) (8 + 12 * r .p + 8 * r .m) refl
           (omega (arith, processors-length r)) (omega (arith, mutexes-length r)) (omega (arith, threads-length r))
           (rw (h .before .first-at .ensures) at (h .put-header .ensures)) (p .put-processors .ensures) (m .put-mutexes .ensures) (t .put-threads .ensures),

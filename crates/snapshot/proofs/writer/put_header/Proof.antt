@@ -10,7 +10,7 @@ use Rattle.snapshot.proofs.writer.put_header.Statement.{statement}
 use Rattle.snapshot.proofs.writer.put_header.Tie as tie
 
 returns : tie.Need-returns
-returns c = let s = c .before in no-room (now (s .args .b)) (header-bytes (s .args .p) (s .args .t) (s .args .m) (s .args .first) (s .args .applied)) (omega arith)
+returns c = let s = c .before in no-room (now (s .args .b)) (header-bytes (s .args .p) (s .args .t) (s .args .m) (s .args .first) (s .args .applied) (s .args .stealing)) (omega arith)
 
 slice-write-b-2 : tie.Need-slice-write-b-2
 slice-write-b-2 c = simp length-set (omega arith)
@@ -34,7 +34,7 @@ slice-write-b-8 : tie.Need-slice-write-b-8
 slice-write-b-8 c = simp length-set (omega arith)
 
 returns-2 : tie.Need-returns-2
-returns-2 c = let s = c .before in stored (now (s .args .b)) (header-bytes (s .args .p) (s .args .t) (s .args .m) (s .args .first) (s .args .applied)) (omega arith)
+returns-2 c = let s = c .before in stored (now (s .args .b)) (header-bytes (s .args .p) (s .args .t) (s .args .m) (s .args .first) (s .args .applied) (s .args .stealing)) (omega arith)
 
 pub put-header-spec : {M : Type 1} → statement M
 put-header-spec =

@@ -10,7 +10,7 @@ use Rattle.snapshot.proofs.writer.put_processor.Statement.{statement}
 use Rattle.snapshot.proofs.writer.put_processor.Tie as tie
 
 returns : tie.Need-returns
-returns c = let s = c .before in no-room (now (s .args .b)) (processor-bytes (s .args .x)) (omega arith)
+returns c = let s = c .before in no-room (now (s .args .b)) (processor-bytes (s .args .first) (s .args .x)) (omega arith)
 
 slice-write-b-2 : tie.Need-slice-write-b-2
 slice-write-b-2 c = simp length-set (omega arith)
@@ -49,7 +49,7 @@ same-length : tie.Need-same-length
 same-length c = simp length-set
 
 returns-2 : tie.Need-returns-2
-returns-2 c = let s = c .before .before .before .before .before .before in stored (now (s .args .b)) (processor-bytes (s .args .x)) (omega arith)
+returns-2 c = let s = c .before .before .before .before .before .before in stored (now (s .args .b)) (processor-bytes (s .args .first) (s .args .x)) (omega arith)
 
 pub put-processor-spec : {M : Type 1} → statement M
 put-processor-spec =

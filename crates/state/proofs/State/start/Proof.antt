@@ -11,12 +11,9 @@ returns c =
     rw (
       c .first-processors .ensures,
       c .before .first-threads .ensures,
-      c .before .before .with-first .ensures,
-      c .before .before .before .first-ready .ensures,
-      c .before .before .before .before .before .before .zero .ensures,
+      c .before .before .first-firsts .ensures,
+      c .before .before .before .before .zero .ensures,
     )
 
 pub start-spec : {M : Type 1} → statement M
-start-spec =
-    tie.close
-    (tie.spec (λ c κs. search needs) (λ c κs. search needs) (λ c κs. search needs) (λ c κs. search needs) (λ c κs. search needs) returns)
+start-spec = tie.close (tie.spec (λ c κs. search needs) (λ c κs. search needs) (λ c κs. search needs) (λ c κs. search needs) returns)

@@ -11,13 +11,13 @@ use Rattle.state.proofs.start.first_threads.Statement.{statement}
 use Rattle.state.proofs.start.first_threads.Tie as tie
 
 abbrev Inv-loop : tie.InvT-loop
-Inv-loop p b threads₀ k₀ threads k = (k ≤ 33) × (length threads ≡ 33) × (take k threads ≡ tabulate (first-thread p b) 0 k)
+Inv-loop p b stealing threads₀ k₀ threads k = (k ≤ 33) × (length threads ≡ 33) × (take k threads ≡ tabulate (first-thread p b stealing) 0 k)
 
 abbrev μ-loop : tie.MeasureT-loop
-μ-loop p b threads₀ k₀ threads k = 33 - k
+μ-loop p b stealing threads₀ k₀ threads k = 33 - k
 
 loop-holds : tie.Need-loop-holds Inv-loop μ-loop
-loop-holds c = (omega arith, search needs, fill-none (first-thread (c .before .args .p) (c .before .args .b)))
+loop-holds c = (omega arith, search needs, fill-none (first-thread (c .before .args .p) (c .before .args .b) (c .before .args .stealing)))
 
 loop-again : tie.Need-loop-again Inv-loop μ-loop
 loop-again c =

@@ -13,6 +13,8 @@ returns c =
       c .before .before .before .get2 .ensures,
       c .before .before .before .before .next-in .ensures,
       c .before .before .before .before .before .get .ensures,
+      c .before .before .before .before .before .before .ready-queues .ensures,
+      c .before .before .before .before .before .before .before .index-of .ensures,
     )
 
 pub look-spec : {M : Type 1} → statement M
@@ -21,6 +23,9 @@ look-spec =
     (tie.spec
     (λ c κs. search needs)
     (λ c κs. search needs)
+    (λ c κs. search needs)
+    (λ c κs. search needs)
+    (λ c. search needs)
     (λ c κs. search needs)
     (λ c κs. search needs)
     (λ c κs. search needs)

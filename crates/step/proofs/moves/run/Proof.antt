@@ -7,7 +7,9 @@ use mathlib.Core.Path.{_≡_, ap, _∙_}
 use native.Mathlib.Omega.{arith}
 use lib.ListN.{length, getD, set}
 use borrow.Author.Needs.{needs}
-use Rattle.reference.specs.Lists.{tabulate}
+use lib.Dec.{eqb}
+use borrow.Author.Tests.{eq-eqb, ne-eqb}
+use Rattle.reference.specs.Lists.{choose, tabulate}
 use Rattle.state.specs.declared.Thread.{Thread}
 use Rattle.state.specs.declared.Processor.{Processor}
 use Rattle.state.specs.declared.Mutex.{Mutex}
@@ -18,7 +20,7 @@ use Rattle.state.proofs.Bytes.{threads-back}
 use Rattle.state.proofs.Past.{read-past, write-past}
 use Rattle.state.proofs.Sized.{sized}
 use Rattle.step.specs.Model.{gathered-of, ran, sizes-of, refusal-seen}
-use Rattle.step.proofs.InPlace.{Running, running-start, running-stop, running-more, running-end, bytes-size, calls-size}
+use Rattle.step.proofs.InPlace.{Running, running-start, running-stop, running-more, running-end, status-only, bytes-size, calls-size}
 use Rattle.step.proofs.moves.run.Statement.{statement}
 use Rattle.step.proofs.moves.run.Tie as tie
 
@@ -49,7 +51,7 @@ loop-holds c =
 returns : tie.Need-returns Inv-loop μ-loop
 returns c =
     let cause = c .before .before .before in
-    let look = cause .before .before .before .before in
+    let look = cause .before .before .before in
     let mutex = look .before .before .before in
     let target = mutex .before .before in
     let proc = target .before in
@@ -74,11 +76,14 @@ returns c =
     either (λ w. w .2) (λ w. w .1 ∙ zero .zero2 .ensures ∙ read-past (l .mutexes) 9 m (g .mutexes-size) (w .0 .left) zero-mutex)
     (mutex .before .if2 .came)
     in
+    let status : cause .before .if3 .status ≡ choose (eqb a 6) (getD (l .bytes) (3 * o) 0) 0 =
+    either (λ w. rw (eq-eqb a 6 (w .0 .taken)) (w .3 ∙ w .2 .ensures)) (λ w. rw (ne-eqb a 6 (w .0 .left)) (w .1)) (cause .before .if3 .came)
+    in
     let q : cause .cause .result ≡ refusal-seen (sizes-of (l .s)) (look .look .result) (getD (l .bytes) (3 * o) 0) a o =
-    cause .cause .ensures ∙ rw (cause .before .before .before .sizes .ensures, cause .before .status-in .ensures)
+    cause .cause .ensures ∙ rw (cause .before .before .sizes .ensures, status) (status-only _ _ _ a o)
     in
     let stop = running-stop (t .args .s) j (t .args .calls .now) (l .made) (l .s) (l .calls) (l .firsts) (l .bytes) (l .processors) (l .mutexes) g h
-    (proc .by-fields .result) m (mutex .mutex-by-fields .result) (look .look .result) r (target .target .ensures) x (look .look .ensures) (cause .cause .result) q (c .before .before .if3 .taken)
+    (proc .by-fields .result) m (mutex .mutex-by-fields .result) (look .look .result) r (target .target .ensures) x (look .look .ensures) (cause .cause .result) q (c .before .before .if4 .taken)
     in (
       c .ended .ensures ∙
           ap (ran (cause .cause .result) (l .made)) (back (l .s) (l .firsts) (l .bytes) (l .processors) (l .mutexes) (g .threads) (g .bytes) (g .threads-size)) ∙
@@ -90,7 +95,7 @@ loop-again : tie.Need-loop-again Inv-loop μ-loop
 loop-again c =
     let refused = c .before .before .before .before .before .before .before .before .before .before .before .before .before in
     let cause = refused .before in
-    let look = cause .before .before .before .before in
+    let look = cause .before .before .before in
     let mutex = look .before .before .before in
     let target = mutex .before .before in
     let proc = target .before in
@@ -115,25 +120,28 @@ loop-again c =
     either (λ w. w .2) (λ w. w .1 ∙ zero .zero2 .ensures ∙ read-past (l .mutexes) 9 m (g .mutexes-size) (w .0 .left) zero-mutex)
     (mutex .before .if2 .came)
     in
+    let status : cause .before .if3 .status ≡ choose (eqb a 6) (getD (l .bytes) (3 * o) 0) 0 =
+    either (λ w. rw (eq-eqb a 6 (w .0 .taken)) (w .3 ∙ w .2 .ensures)) (λ w. rw (ne-eqb a 6 (w .0 .left)) (w .1)) (cause .before .if3 .came)
+    in
     let q : cause .cause .result ≡ refusal-seen (sizes-of (l .s)) (look .look .result) (getD (l .bytes) (3 * o) 0) a o =
-    cause .cause .ensures ∙ rw (cause .before .before .before .sizes .ensures, cause .before .status-in .ensures)
+    cause .cause .ensures ∙ rw (cause .before .before .sizes .ensures, status) (status-only _ _ _ a o)
     in
     let e = c .before .before .before .before .before .before .before .before .act in
     let noting = c .before .before .before .before .before .before .before .before .before .before .before .note-move in
     let carried = c .before .before .before .before .before .carry in
-    let xs : c .before .before .if4 .mutexes ≡ set (l .mutexes) m (e .result .mutex) =
+    let xs : c .before .before .if5 .mutexes ≡ set (l .mutexes) m (e .result .mutex) =
     either (λ w. w .3 ∙ ap (set (l .mutexes) m) (w .2 .ensures))
-    (λ w. w .1 ∙ write-past (l .mutexes) 9 m (g .mutexes-size) (w .0 .left) (e .result .mutex)) (c .before .before .if4 .came)
+    (λ w. w .1 ∙ write-past (l .mutexes) 9 m (g .mutexes-size) (w .0 .left) (e .result .mutex)) (c .before .before .if5 .came)
     in
-    let ps : c .before .if5 .processors ≡ set (l .processors) p (e .result .proc) =
+    let ps : c .before .if6 .processors ≡ set (l .processors) p (e .result .proc) =
     either (λ w. w .3 ∙ ap (set (l .processors) p) (w .2 .ensures))
-    (λ w. w .1 ∙ write-past (l .processors) 9 p (g .processors-size) (w .0 .left) (e .result .proc)) (c .before .if5 .came)
+    (λ w. w .1 ∙ write-past (l .processors) 9 p (g .processors-size) (w .0 .left) (e .result .proc)) (c .before .if6 .came)
     in (
       omega (arith, test .loop-test .taken),
       running-more (t .args .s) j (t .args .calls .now) (l .made) (l .s) (l .calls) (l .firsts) (l .bytes) (l .processors) (l .mutexes) g h
           (proc .by-fields .result) m (mutex .mutex-by-fields .result) (look .look .result) r (target .target .ensures) x (look .look .ensures) (cause .cause .result) q
-          (refused .if3 .left) (e .result) (e .ensures) _ (noting .last .0) (carried .last .0) (carried .last .1 .0)
-          (c .before .if5 .processors) (c .before .before .if4 .mutexes) (rw (c .up-wide .ensures)) (noting .ensures) (carried .ensures .0) (carried .ensures .1) ps xs,
+          (refused .if4 .left) (e .result) (e .ensures) _ (noting .last .0) (carried .last .0) (carried .last .1 .0)
+          (c .before .if6 .processors) (c .before .before .if5 .mutexes) (rw (c .up-wide .ensures)) (noting .ensures) (carried .ensures .0) (carried .ensures .1) ps xs,
     )
 
 returns-2 : tie.Need-returns-2 Inv-loop μ-loop
@@ -178,17 +186,17 @@ run-spec =
     (λ c. omega (arith, bytes-size _ _ _ _ _ _ _ _ _ _ (c .before .before .before .before .before .before .before .before .before .before .before .loop .inv .1)))
     (λ c κs. search needs)
     (λ c κs. search needs)
-    (λ c. omega (arith, bytes-size _ _ _ _ _ _ _ _ _ _ (c .before .before .before .before .before .before .before .before .before .before .before .before .before .before .loop .inv .1)))
+    (λ c. omega (arith, bytes-size _ _ _ _ _ _ _ _ _ _ (c .before .before .before .before .before .before .before .before .before .before .before .before .before .before .before .loop .inv .1)))
     (λ c κs. search needs)
     (λ c κs. search needs)
-    (λ c. omega (arith, bytes-size _ _ _ _ _ _ _ _ _ _ (c .before .before .before .before .before .before .before .before .before .before .before .before .before .before .before .before .before .before .loop .inv .1)))
+    (λ c. omega (arith, bytes-size _ _ _ _ _ _ _ _ _ _ (c .before .before .before .before .before .before .before .before .before .before .before .before .before .before .before .before .before .loop .inv .1)))
     (λ c κs. search needs)
-    (λ c. calls-size _ _ _ _ _ _ _ _ _ _ (c .before .before .before .before .before .before .before .before .before .before .before .before .before .before .before .before .before .before .before .loop .inv .1))
+    (λ c. calls-size _ _ _ _ _ _ _ _ _ _ (c .before .before .before .before .before .before .before .before .before .before .before .before .before .before .before .before .before .before .loop .inv .1))
     returns
     (λ c κs. search needs)
     (λ c κs. search needs)
-    (λ c. omega (arith, c .before .before .before .before .before .before .before .before .before .before .before .before .before .before .before .before .before .before .before .before .before .before .before .loop .inv .1 .firsts-size))
-    (λ c. omega (arith, bytes-size _ _ _ _ _ _ _ _ _ _ (c .before .before .before .before .before .before .before .before .before .before .before .before .before .before .before .before .before .before .before .before .before .before .before .before .loop .inv .1)))
+    (λ c. omega (arith, c .before .before .before .before .before .before .before .before .before .before .before .before .before .before .before .before .before .before .before .before .before .before .loop .inv .1 .firsts-size))
+    (λ c. omega (arith, bytes-size _ _ _ _ _ _ _ _ _ _ (c .before .before .before .before .before .before .before .before .before .before .before .before .before .before .before .before .before .before .before .before .before .before .before .loop .inv .1)))
     (λ c κs. search needs)
     (λ c κs. search needs)
     (λ c. search needs)
@@ -197,8 +205,8 @@ run-spec =
     (λ c. search needs)
     (λ c. search needs)
     (λ c κs. search needs)
-    (λ c. let l = c .before .before .before .before .before .before .before .before .before .before .before .before .before .before .before .before .before .before .before .before .before .before .before .before .before .before .before .before .before in omega (arith, l .loop-test .taken, l .before .before .before .before .before .before .before .before .before .before .before .before .good .1 .0))
-    (λ c. let l = c .before .before .before .before .before .before .before .before .before .before .before .before .before .before .before .before .before .before .before .before .before .before .before .before .before .before .before .before .before in omega (arith, l .loop-test .taken))
+    (λ c. let l = c .before .before .before .before .before .before .before .before .before .before .before .before .before .before .before .before .before .before .before .before .before .before .before .before .before .before .before .before in omega (arith, l .loop-test .taken, l .before .before .before .before .before .before .before .before .before .before .before .before .good .1 .0))
+    (λ c. let l = c .before .before .before .before .before .before .before .before .before .before .before .before .before .before .before .before .before .before .before .before .before .before .before .before .before .before .before .before in omega (arith, l .loop-test .taken))
     loop-again
     (λ c. omega (arith, bytes-size _ _ _ _ _ _ _ _ _ _ (c .before .before .loop .inv .1)))
     (λ c κs. search needs)

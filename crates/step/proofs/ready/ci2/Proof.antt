@@ -9,9 +9,10 @@ returns : tie.Need-returns
 unfolding at-CI2
 returns c =
     rw (
-      c .before .before .enum-told .given .1,
+      c .before .before .before .enum-told .given .1,
       c .stays .ensures,
       c .before .away .ensures,
+      c .before .before .next-probe .ensures,
     )
 
 returns-2 : tie.Need-returns-2
@@ -24,6 +25,7 @@ ci2-spec =
     (tie.spec
     (λ c. search needs)
     (λ c. search needs)
+    (λ c κs. search needs)
     (λ c κs. search needs)
     (λ c κs. search needs)
     returns
