@@ -1,7 +1,7 @@
 /*
  * Uses the header and the archive as a C program would, and checks the answers that the scope
  * prints: the start picture, session S with K5, refusals with their places, buffer lengths,
- * reading, turns ahead and classes. Prints a line for each failed check and one with the counts.
+ * reading, a ready queue for each processor, turns ahead and classes. Prints a line for each failed check and one with the counts.
  */
 #include "humdayeg.h"
 
@@ -43,6 +43,17 @@ static struct outcome replay_in(struct table s, const uint8_t *moves, size_t len
     return out;
 }
 
+/* The same with a fifth number. */
+static struct outcome replay_with(struct table s, uint8_t stealing, const uint8_t *moves,
+                                  size_t length) {
+    struct outcome out;
+    memset(out.picture, FILL, sizeof out.picture);
+    out.place = UINT32_MAX;
+    out.number = humdayeg_replay_with(s.p, s.t, s.m, s.b, stealing, moves, length, out.picture,
+                                      sizeof out.picture, &out.place);
+    return out;
+}
+
 static struct outcome replay(struct table s, const uint8_t *moves, size_t length) {
     return replay_in(s, moves, length, sizeof(((struct outcome *)0)->picture));
 }
@@ -72,6 +83,15 @@ static void starts(void) {
     check(out.number == 0 && out.place == 0, "start 1 1 1 1 is taken");
     check(memcmp(out.picture, first, sizeof first) == 0, "its picture is the one printed");
     check(untouched(&out, sizeof first), "bytes after the picture are kept");
+
+    out = replay_with(ONE, 1, K5, 0);
+    check(out.number == 0 && out.picture[7] == 1, "a ready queue for each processor is taken");
+    out.picture[7] = 0;
+    check(memcmp(out.picture, first, sizeof first) == 0, "with one processor all else is alike");
+    out = replay_with(ONE, 0, K5, 0);
+    check(out.number == 0 && memcmp(out.picture, first, sizeof first) == 0, "a fifth number 0");
+    out = replay_with(ONE, 2, K5, 0);
+    check(refused(&out, HUMDAYEG_BAD_TABLE, 0), "a fifth number over 1");
 
     out = replay(LARGEST, K5, 0);
     check(out.number == 0 && humdayeg_read(out.picture, sizeof out.picture) == 0, "K1");
@@ -168,9 +188,12 @@ static void reading(void) {
     picture[0] = 9;
     check(humdayeg_read(picture, length) == HUMDAYEG_BAD_FIELD, "nine processors");
     picture[0] = 2;
-    picture[7] = 1;
-    check(humdayeg_read(picture, length) == HUMDAYEG_BAD_FIELD, "an unnamed byte");
+    picture[7] = 2;
+    check(humdayeg_read(picture, length) == HUMDAYEG_BAD_FIELD, "a choice over 1");
     picture[7] = 0;
+    picture[6] = 1;
+    check(humdayeg_read(picture, length) == HUMDAYEG_BAD_FIELD, "an unnamed byte");
+    picture[6] = 0;
     picture[3] = 1;
     check(humdayeg_read(picture, length) == HUMDAYEG_BAD_CHAIN, "a thread not ready, in the chain");
     picture[3] = 0;
@@ -178,6 +201,51 @@ static void reading(void) {
     threads[0] = 5;
     threads[1] = 0;
     check(humdayeg_read(picture, length) == HUMDAYEG_BAD_HOLDER, "a loaded thread that ended");
+}
+
+/* Two processors with a ready queue each: thread 3 is in the first, thread 4 in the second.
+   Processor 1 exits its thread and takes 3, exits that, finds its own queue empty and takes 4. */
+static const struct table FOUR = {2, 4, 1, 4};
+static const uint8_t STEALS[] = {1, 5, 0, 1, 0, 0, 1, 0, 0, 1, 5, 0, 1, 0, 0, 1, 0, 0, 1, 0, 0};
+
+/* What reading gets with one byte changed. */
+static uint8_t read_with(const struct outcome *out, size_t length, size_t at, uint8_t byte) {
+    uint8_t picture[HUMDAYEG_MOST_PICTURE_BYTES + 1] = {0};
+    memcpy(picture, out->picture, HUMDAYEG_PICTURE_BYTES(2, 4, 1));
+    picture[at] = byte;
+    return humdayeg_read(picture, length);
+}
+
+static void queues(void) {
+    const size_t length = HUMDAYEG_PICTURE_BYTES(2, 4, 1), look = 8 + 5, thread4 = 8 + 24 + 8 + 12;
+    struct outcome out = replay_with(FOUR, 1, STEALS, 0);
+    const uint8_t *own = out.picture + 8, *other = own + 12, *threads = own + 24 + 8;
+    check(out.number == 0 && out.picture[7] == 1 && out.picture[3] == 0, "a queue for each");
+    check(own[11] == 3 && other[11] == 4, "each has its first");
+    check(threads[8] == 1 && threads[9] == 1 && threads[12] == 1 && threads[13] == 2,
+          "ready threads name their queue's processor");
+
+    out = replay_with(FOUR, 1, STEALS, 3 * 5);
+    check(out.number == 0 && own[0] == 1 && own[5] == 1 && own[11] == 0, "one look at an own queue");
+    check(read_with(&out, length, 7, 1) == 0, "its picture reads");
+    check(read_with(&out, length, 7, 0) == HUMDAYEG_BAD_FIELD, "as one of a single queue it does not");
+    check(read_with(&out, length, 7, 2) == HUMDAYEG_BAD_FIELD, "a fifth number 2");
+    check(read_with(&out, length - 1, 7, 2) == HUMDAYEG_BAD_LENGTH, "a byte short");
+    check(read_with(&out, length + 1, 7, 2) == HUMDAYEG_BAD_LENGTH, "a byte long");
+    check(read_with(&out, length, 3, 4) == HUMDAYEG_BAD_FIELD, "a single chain's first");
+    check(read_with(&out, length, look, 0) == 0, "another look number");
+    check(read_with(&out, length, look, 2) == HUMDAYEG_BAD_FIELD, "a look number of P");
+    check(read_with(&out, length, look + 12, 1) == HUMDAYEG_BAD_FIELD, "a look number at App");
+    check(read_with(&out, length, thread4 + 1, 0) == HUMDAYEG_BAD_FIELD, "ready in no queue");
+    check(read_with(&out, length, thread4 + 1, 3) == HUMDAYEG_BAD_FIELD, "ready in a third");
+    check(read_with(&out, length, thread4 + 1, 1) == HUMDAYEG_BAD_CHAIN, "ready in the first");
+
+    out = replay_with(FOUR, 1, STEALS, sizeof STEALS);
+    check(out.number == 0 && own[1] == 4 && own[5] == 0 && other[11] == 0, "thread 4 is taken");
+    out = replay_with(FOUR, 0, STEALS, sizeof STEALS);
+    check(refused(&out, HUMDAYEG_GO_AT_APP, 7), "a single queue needs no second look");
+    out = replay_with(FOUR, 2, STEALS, sizeof STEALS);
+    check(refused(&out, HUMDAYEG_BAD_TABLE, 0), "a fifth number over 1 comes first");
 }
 
 /* Thread 1 locks mutex 1 twice and so waits for itself, as in K4. */
@@ -228,6 +296,20 @@ static uint8_t class(struct table s, const uint8_t *scripts, size_t scripts_len,
     return class_in(s, scripts, scripts_len, turns, count, sizeof answers, sizeof pictures);
 }
 
+/* The same with a fifth number. */
+static uint8_t class_of(struct table s, uint8_t stealing, const uint8_t *scripts,
+                        size_t scripts_len, const uint8_t *turns, size_t count) {
+    memset(answers, FILL, sizeof answers);
+    memset(pictures, FILL, sizeof pictures);
+    uint8_t number = humdayeg_class_with(s.p, s.t, s.m, s.b, stealing, scripts, scripts_len, turns,
+                                         count, answers, sizeof answers, pictures, sizeof pictures);
+    size_t taken = number == 0 ? count : 0;
+    check(filled(answers, taken, sizeof answers), "answers after the turns are kept");
+    check(filled(pictures, taken * HUMDAYEG_PICTURE_BYTES(s.p, s.t, s.m), sizeof pictures),
+          "bytes after the pictures are kept");
+    return number;
+}
+
 /* Whether the picture after turn i, counted from 0, is that of a replay. */
 static int shows(struct table s, size_t i, const uint8_t *moves, size_t length) {
     size_t bytes = HUMDAYEG_PICTURE_BYTES(s.p, s.t, s.m);
@@ -249,6 +331,27 @@ static void classes(void) {
     for (size_t i = 0; i < sizeof turns; i++)
         check(answers[i] == 0 && shows(TWO, i, K5, 3 * (i + 1)), "K5 as a class, turn by turn");
     check(class_in(TWO, LOCKS, sizeof LOCKS, turns, 0, 0, 0) == 0, "a class of no turns");
+}
+
+/* Threads without calls, with each fifth number; what a single queue gives is what the class of
+   four numbers gives. */
+static void classes_of_queues(void) {
+    static const uint8_t none[4 * HUMDAYEG_SCRIPT_BYTES], turns[] = {1, 1, 1, 1, 1, 1, 1};
+    static uint8_t before[sizeof pictures];
+    const size_t bytes = HUMDAYEG_PICTURE_BYTES(2, 4, 1);
+    check(class_of(FOUR, 1, none, sizeof none, turns, sizeof turns) == 0, "a queue for each");
+    for (size_t i = 0; i < sizeof turns; i++) {
+        struct outcome out = replay_with(FOUR, 1, STEALS, 3 * (i + 1));
+        check(answers[i] == 0 && memcmp(pictures + i * bytes, out.picture, bytes) == 0,
+              "a class with a queue for each, turn by turn");
+    }
+    check(class_of(FOUR, 0, none, sizeof none, turns, sizeof turns) == 0, "a fifth number 0");
+    memcpy(before, pictures, sizeof before);
+    check(class(FOUR, none, sizeof none, turns, sizeof turns) == 0, "four numbers");
+    check(memcmp(before, pictures, sizeof before) == 0, "give the same pictures");
+    check(class_of(FOUR, 1, none, sizeof none - 1, turns, 3) == HUMDAYEG_BAD_SCRIPT, "19");
+    check(class_of(FOUR, 2, none, sizeof none, turns, 3) == HUMDAYEG_BAD_TABLE, "a fifth number 2");
+    check(class_of(FOUR, 2, none, 0, turns, 3) == HUMDAYEG_BAD_TABLE, "before 19");
 }
 
 /* Two threads share a processor and yield to each other (Y1, Y2, Y3, CI2, CI3); each goes on
@@ -367,8 +470,10 @@ int main(void) {
     most_moves();
     buffers();
     reading();
+    queues();
     turns();
     classes();
+    classes_of_queues();
     yielding();
     refused_turns();
     most_turns();

@@ -24,12 +24,13 @@ pub fn picture_of(state: &State) -> Vec<u8> {
 }
 
 /// The answer to a replay and the buffer after it.
-pub fn replay(table: Table, moves: &[u8], buffer: &[u8]) -> (Replayed, Vec<u8>) {
+pub fn replay(table: Table, stealing: u8, moves: &[u8], buffer: &[u8]) -> (Replayed, Vec<u8>) {
     let refused = |number: u8, place: u32| (Replayed { number, place }, buffer.to_vec());
-    if !config(table).in_range() {
+    let config = config(table).with_stealing(stealing);
+    if !config.in_range() {
         return refused(1, 0);
     }
-    let mut state = State::start(config(table));
+    let mut state = State::start(config);
     let mut place = 0;
     for bytes in moves.chunks(3) {
         place += 1;
@@ -52,12 +53,13 @@ pub fn replay(table: Table, moves: &[u8], buffer: &[u8]) -> (Replayed, Vec<u8>) 
 /// The answer to a class, with its moves as bytes; both buffers become what they are after it.
 pub fn class(
     table: Table,
+    stealing: u8,
     scripts: &[u8],
     turns: &[u8],
     answers: &mut [u8],
     pictures: &mut [u8],
 ) -> (u8, Vec<u8>) {
-    let begun = script::start(config(table), scripts);
+    let begun = script::start(config(table).with_stealing(stealing), scripts);
     if !begun.is_accepted() {
         return (begun.number, Vec::new());
     }

@@ -18,11 +18,38 @@ mod c {
             picture_len: usize,
             place: *mut u32,
         ) -> u8;
+        pub fn humdayeg_replay_with(
+            p: u8,
+            t: u8,
+            m: u8,
+            b: u8,
+            stealing: u8,
+            moves: *const u8,
+            moves_len: usize,
+            picture: *mut u8,
+            picture_len: usize,
+            place: *mut u32,
+        ) -> u8;
         pub fn humdayeg_class(
             p: u8,
             t: u8,
             m: u8,
             b: u8,
+            scripts: *const u8,
+            scripts_len: usize,
+            turns: *const u8,
+            turns_len: usize,
+            answers: *mut u8,
+            answers_len: usize,
+            pictures: *mut u8,
+            pictures_len: usize,
+        ) -> u8;
+        pub fn humdayeg_class_with(
+            p: u8,
+            t: u8,
+            m: u8,
+            b: u8,
+            stealing: u8,
             scripts: *const u8,
             scripts_len: usize,
             turns: *const u8,
@@ -80,6 +107,28 @@ pub fn replay(table: Table, moves: &[u8], picture: &mut [u8]) -> Replayed {
     Replayed { number, place }
 }
 
+/// The same of a table with a fifth number.
+pub fn replay_with(table: Table, stealing: u8, moves: &[u8], picture: &mut [u8]) -> Replayed {
+    let [p, t, m, b] = table;
+    let mut place = u32::MAX;
+    // As above.
+    let number = unsafe {
+        c::humdayeg_replay_with(
+            p,
+            t,
+            m,
+            b,
+            stealing,
+            moves.as_ptr(),
+            moves.len(),
+            picture.as_mut_ptr(),
+            picture.len(),
+            &mut place,
+        )
+    };
+    Replayed { number, place }
+}
+
 /// Takes the turns of a class under scripts from a start table, with the number of each turn in
 /// `answers` and the picture after each in `pictures`; refused as a whole, it writes nothing.
 pub fn class(
@@ -97,6 +146,36 @@ pub fn class(
             t,
             m,
             b,
+            scripts.as_ptr(),
+            scripts.len(),
+            turns.as_ptr(),
+            turns.len(),
+            answers.as_mut_ptr(),
+            answers.len(),
+            pictures.as_mut_ptr(),
+            pictures.len(),
+        )
+    }
+}
+
+/// The same of a table with a fifth number.
+pub fn class_with(
+    table: Table,
+    stealing: u8,
+    scripts: &[u8],
+    turns: &[u8],
+    answers: &mut [u8],
+    pictures: &mut [u8],
+) -> u8 {
+    let [p, t, m, b] = table;
+    // As above.
+    unsafe {
+        c::humdayeg_class_with(
+            p,
+            t,
+            m,
+            b,
+            stealing,
             scripts.as_ptr(),
             scripts.len(),
             turns.as_ptr(),

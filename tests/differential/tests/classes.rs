@@ -1,17 +1,18 @@
 //! Classes through the static library against the independent implementation, byte for byte.
 
 use differential::classes::Class;
-use differential::expected;
+use differential::{class_with, expected};
 use independent::machine::{CREATE, LOCK, MOST_MOVES, UNLOCK, YIELD};
 use independent::random::Generator;
 use independent::script::{script, SCRIPT};
 use std::collections::BTreeMap;
 
-/// A class of so many turns under good scripts.
+/// A class of so many turns under good scripts, of either choice of ready queues.
 fn random(generator: &mut Generator, turns: usize) -> Class {
     let config = generator.config();
     Class {
         table: expected::table(config),
+        stealing: generator.between(0, 1),
         scripts: generator.scripts(config),
         turns: generator.turns(config, turns),
     }
@@ -26,7 +27,7 @@ fn small() -> Class {
         script(&[[YIELD, 0]; 6]),
     ];
     let turns = [1, 2, 1, 2, 2, 2, 1, 1, 1, 0, 1, 2, 2, 3, 2, 1, 1, 1, 2, 2, 255, 2, 1, 1, 2];
-    Class { table: [2, 4, 1, 3], scripts: scripts.concat(), turns: turns.to_vec() }
+    Class { table: [2, 4, 1, 3], stealing: 0, scripts: scripts.concat(), turns: turns.to_vec() }
 }
 
 #[test]
@@ -77,7 +78,7 @@ fn classes_past_the_most_moves() {
 #[test]
 fn the_4001st_turn() {
     let scripts = [script(&[[LOCK, 9]]), script(&[]), script(&[])].concat();
-    let mut class = Class { table: [3, 3, 1, 2], scripts, turns: Vec::new() };
+    let mut class = Class { table: [3, 3, 1, 2], stealing: 0, scripts, turns: Vec::new() };
     for count in 3_997..4_004 {
         class.turns = vec![3; count];
         assert_eq!(class.compare().moves.len(), 3 * count.min(4_000));
@@ -95,8 +96,8 @@ fn every_size() {
                 let b = 1 + (p * 7 + t * 3 + m) % t;
                 let scripts = vec![0; SCRIPT * usize::from(t)];
                 let turns = (0..=p + 1).chain(0..=p + 1).collect();
-                let taken = Class { table: [p, t, m, b], scripts, turns }.compare();
-                assert_eq!(taken.number, 0);
+                let class = Class { table: [p, t, m, b], stealing: 1, scripts, turns };
+                assert_eq!(class.compare().number, 0);
             }
         }
     }
@@ -110,11 +111,29 @@ fn tables_out_of_range() {
             for m in edges {
                 for b in edges {
                     for scripts in [vec![0; 13 * 32], vec![7; 40]] {
-                        let class = Class { table: [p, t, m, b], scripts, turns: vec![1, 0, 9] };
+                        let (table, turns) = ([p, t, m, b], vec![1, 0, 9]);
+                        let class = Class { table, stealing: 0, scripts, turns };
                         class.compare();
                         class.compare_in(0, 0);
                     }
                 }
+            }
+        }
+    }
+}
+
+/// Fifth numbers over 1, before 19 and 10.
+#[test]
+fn fifth_numbers_out_of_range() {
+    for stealing in 2..=255 {
+        for scripts in [small().scripts, Vec::new()] {
+            for room in [0, 9_000] {
+                let (mut answers, mut pictures) = (vec![7; room], vec![7; room]);
+                let Class { table, turns, .. } = small();
+                let number =
+                    class_with(table, stealing, &scripts, &turns, &mut answers, &mut pictures);
+                assert_eq!(number, 1);
+                assert!(answers.iter().chain(&pictures).all(|&byte| byte == 7));
             }
         }
     }

@@ -32,14 +32,15 @@ fn parts(picture: &[u8]) -> [usize; 3] {
     [8, 8 + 12 * p, 8 + 12 * p + 8 * m]
 }
 
-/// One damage that keeps the sizes: of chains, places and registers, or of any byte.
+/// One damage that keeps the sizes: of chains, places and registers, of what tells the choice of
+/// ready queues, or of any byte.
 fn damage(generator: &mut Generator, picture: &mut [u8]) {
     let [processors, mutexes, threads] = parts(picture);
     let [p, t, m, ..] = *picture else { unreachable!() };
     let (row_p, row_t) = (generator.below(p.into()), generator.below(t.into()));
     let row_m = generator.below(m.into());
     let thread = generator.between(0, t);
-    match generator.below(10) {
+    match generator.below(13) {
         0 => picture[3] = thread,
         1 => picture[mutexes + 8 * row_m + 1] = thread,
         2 | 3 => picture[threads + 4 * row_t + 2] = thread,
@@ -53,6 +54,9 @@ fn damage(generator: &mut Generator, picture: &mut [u8]) {
                 picture.swap(a + i, b + i);
             }
         }
+        9 => picture[7] = generator.between(0, 2),
+        10 => picture[processors + 12 * row_p + 5] = generator.between(0, p),
+        11 => picture[processors + 12 * row_p + 11] = thread,
         _ => {
             let at = 3 + generator.below(picture.len() - 3);
             picture[at] = generator.byte();
@@ -145,6 +149,20 @@ fn sizes_and_lengths() {
                     compare(&bytes);
                 }
             }
+        }
+    }
+}
+
+/// The choice is looked at after the lengths, whatever its byte.
+#[test]
+fn choices_and_lengths() {
+    for mut picture in pictures(7_000..7_020, 60, 1) {
+        for choice in 0..=255 {
+            picture[7] = choice;
+            let number = compare(&picture);
+            assert!(choice < 2 || number == 12);
+            assert_eq!(compare(&picture[..picture.len() - 1]), 11);
+            assert_eq!(compare(&[&picture[..], &[0]].concat()), 11);
         }
     }
 }

@@ -1,8 +1,8 @@
 //! Replays through the static library against the independent machine, byte for byte.
 
 use differential::expected::{self, picture_of};
-use differential::sessions::{compare, drive, patterned, tail, Session};
-use differential::{replay, Replayed, Table, MOST_PICTURE};
+use differential::sessions::{compare, compare_with, drive, patterned, tail, Session};
+use differential::{replay_with, Replayed, Table, MOST_PICTURE};
 use independent::machine::{Move, MOST_MOVES};
 use independent::random::{Driver, Generator, Rates};
 
@@ -12,7 +12,8 @@ fn shows(session: &Session, made: usize) {
     let mut wanted = after.clone();
     let shown = picture_of(&session.states[made]);
     wanted[..shown.len()].copy_from_slice(&shown);
-    let answer = replay(session.table, &session.moves[..3 * made], &mut after);
+    let answer =
+        replay_with(session.table, session.stealing, &session.moves[..3 * made], &mut after);
     assert_eq!(answer, Replayed { number: 0, place: 0 });
     assert!(after == wanted, "{:?} after {made} moves", session.table);
 }
@@ -60,6 +61,8 @@ fn every_number_out_of_range() {
         compare([2, n, 2, 3], &[], MOST_PICTURE);
         compare([2, 5, n, 3], &[], MOST_PICTURE);
         compare([2, 5, 2, n], &[], MOST_PICTURE);
+        compare_with([2, 5, 2, 3], n, &[], MOST_PICTURE);
+        compare_with([2, 5, 2, 3], n, &[9, 9, 9], 0);
     }
 }
 
@@ -154,7 +157,8 @@ fn bytes_left_over() {
 fn the_4001st_move() {
     for seed in 7_000..7_006 {
         let mut driver = Driver::new(seed, Rates::ACCEPTED);
-        let mut session = Session::new(expected::table(driver.generator.config()));
+        let mut session =
+            Session::new(expected::table(driver.generator.config()), (seed % 2) as u8);
         while session.state().applied < MOST_MOVES {
             let made = driver.likely_move(session.state());
             session.make(made).unwrap();

@@ -33,7 +33,7 @@ fn every_thread_number() {
 /// All 32 threads wait for one mutex, its owner too, so the last has 32 turns ahead.
 #[test]
 fn the_most_turns() {
-    let mut session = differential::sessions::Session::new([1, 32, 1, 32]);
+    let mut session = differential::sessions::Session::new([1, 32, 1, 32], 0);
     let make = |session: &mut differential::sessions::Session, made: &[[u8; 3]]| {
         for &one in made {
             session.make(one).unwrap();

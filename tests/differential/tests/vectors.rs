@@ -1,7 +1,9 @@
 //! The stored vectors through the static library: pictures, turns ahead, classes, and the
 //! program's sessions with each answer worked out by a replay.
 
-use differential::{ahead, class, read, replay, Ahead, Replayed, Table, MOST_PICTURE};
+use differential::{
+    ahead, class, class_with, read, replay_with, Ahead, Replayed, Table, MOST_PICTURE,
+};
 use std::collections::BTreeMap;
 use std::fs;
 use std::path::{Path, PathBuf};
@@ -125,8 +127,25 @@ fn turns() {
     }
 }
 
-fn table(words: &str) -> Table {
-    numbers(words).try_into().unwrap()
+/// A start table, with its fifth number where it has one.
+fn table(words: &str) -> (Table, Option<u8>) {
+    let numbers = numbers(words);
+    let (table, fifth) = numbers.split_at(4);
+    (table.try_into().unwrap(), fifth.first().copied())
+}
+
+/// A class whose table has four numbers or five.
+fn class_of(
+    (table, fifth): (Table, Option<u8>),
+    scripts: &[u8],
+    turns: &[u8],
+    answers: &mut [u8],
+    pictures: &mut [u8],
+) -> u8 {
+    match fifth {
+        None => class(table, scripts, turns, answers, pictures),
+        Some(fifth) => class_with(table, fifth, scripts, turns, answers, pictures),
+    }
 }
 
 /// FNV-1a with 64 bits.
@@ -144,12 +163,12 @@ fn classes() {
         let fields: BTreeMap<&str, &str> =
             fields.iter().map(|line| line.split_once(' ').unwrap()).collect();
         let (table, turns) = (table(fields["table"]), unhex(fields["turns"]));
-        let [p, t, m, _] = table.map(usize::from);
+        let [p, t, m, _] = table.0.map(usize::from);
         let length = 8 + 12 * p + 8 * m + 4 * t;
         let mut answers = vec![0; turns.len()];
         let mut pictures = vec![0; length * turns.len()];
         let scripts = unhex(fields["scripts"]);
-        assert_eq!(class(table, &scripts, &turns, &mut answers, &mut pictures), 0);
+        assert_eq!(class_of(table, &scripts, &turns, &mut answers, &mut pictures), 0);
         assert_eq!(answers, unhex(fields["answers"]), "{}", path.display());
         for (got, wanted) in pictures.chunks(length).zip(&shown) {
             assert_eq!(format!("picture {}", hex(got)), *wanted, "{}", path.display());
@@ -163,15 +182,15 @@ fn classes() {
 fn boundaries_of_classes() {
     for path in files("classes", ".list") {
         for line in text(&path).lines() {
-            let words: Vec<&str> = line.split(' ').collect();
-            let &[number, p, t, m, b, answers, pictures, scripts, turns] = &words[..] else {
-                panic!("{line}");
-            };
-            let table = [p, t, m, b].map(|word| word.parse().unwrap());
+            let (number, rest) = line.split_once(' ').unwrap();
+            let words: Vec<&str> = rest.split(' ').collect();
+            let (numbers, rest) = words.split_at(words.len() - 4);
+            let &[answers, pictures, scripts, turns] = rest else { panic!("{line}") };
+            let table = table(&numbers.join(" "));
             let mut answers = vec![0xa5; answers.parse().unwrap()];
             let mut pictures = vec![0xa5; pictures.parse().unwrap()];
             let (scripts, turns) = (unhex(scripts), unhex(turns));
-            let answer = class(table, &scripts, &turns, &mut answers, &mut pictures);
+            let answer = class_of(table, &scripts, &turns, &mut answers, &mut pictures);
             assert_eq!(answer, number.parse::<u8>().unwrap(), "{line}");
             if answer != 0 {
                 assert!(answers.iter().chain(&pictures).all(|&byte| byte == 0xa5), "{line}");
@@ -184,6 +203,7 @@ fn boundaries_of_classes() {
 #[derive(Default)]
 struct Sitting {
     table: Option<Table>,
+    stealing: u8,
     moves: Vec<u8>,
 }
 
@@ -196,16 +216,18 @@ impl Sitting {
         match word {
             "start" => {
                 let table = [rest[0], rest[1], rest[2], rest[3]];
-                let begun = replay(table, &[], &mut picture);
+                let stealing = rest.get(4).copied().unwrap_or(0);
+                let begun = replay_with(table, stealing, &[], &mut picture);
                 if begun.number == 0 {
-                    *self = Sitting { table: Some(table), moves: Vec::new() };
+                    *self = Sitting { table: Some(table), stealing, moves: Vec::new() };
                 }
                 begun.number.to_string()
             }
             "move" => {
                 let stood = self.moves.len();
                 self.moves.extend(&rest);
-                let made = replay(self.table.unwrap(), &self.moves, &mut picture);
+                let made =
+                    replay_with(self.table.unwrap(), self.stealing, &self.moves, &mut picture);
                 if made.number != 0 {
                     assert_eq!(made.place as usize, stood / 3 + 1);
                     self.moves.truncate(stood);
@@ -220,7 +242,7 @@ impl Sitting {
             _ => {
                 let table = self.table.unwrap();
                 let [p, t, m, _] = table.map(usize::from);
-                let shown = replay(table, &self.moves, &mut picture);
+                let shown = replay_with(table, self.stealing, &self.moves, &mut picture);
                 assert_eq!(shown, Replayed { number: 0, place: 0 });
                 hex(&picture[..8 + 12 * p + 8 * m + 4 * t])
             }

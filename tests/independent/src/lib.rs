@@ -1,11 +1,13 @@
-//! An independent implementation of the hand-off machine of document 01, and
-//! of scripted threads (document 02, No. 7).
+//! An independent implementation of the hand-off machine of document 01, of
+//! scripted threads (document 02, No. 7) and of a ready queue for each processor
+//! (No. 13).
 //!
 //! Terms of document 01 and the names used here: loaded is `current`, hand is
 //! `transit`, rank is `sequence`, seen is `observed`, standing moves are
 //! `applied`, step back is `undo`, turns ahead is `ahead`, a thread's place in
-//! its script is its progress, a class session is a `class`. A picture is the
-//! byte form of a `Snapshot`, which is the state as fixed tables with chains.
+//! its script is its progress, a class session is a `class`, the choice of ready
+//! queues is `stealing`, the look number is `probe`. A picture is the byte form
+//! of a `Snapshot`, which is the state as fixed tables with chains.
 //!
 //! - `machine`: the state with plain queues, the start and the lines.
 //! - `record`: the state as tables with chains, its rules, both conversions.

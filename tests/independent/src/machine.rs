@@ -28,16 +28,24 @@ pub struct Config {
     pub threads: u8,
     pub mutexes: u8,
     pub born: u8,
+    /// 0 for a single ready queue, 1 for one for each processor.
+    pub stealing: u8,
 }
 
 impl Config {
+    /// With a single ready queue.
     pub const fn new(processors: u8, threads: u8, mutexes: u8, born: u8) -> Self {
-        Config { processors, threads, mutexes, born }
+        Config { processors, threads, mutexes, born, stealing: 0 }
+    }
+
+    pub const fn with_stealing(self, stealing: u8) -> Self {
+        Config { stealing, ..self }
     }
 
     pub fn in_range(self) -> bool {
         sizes_in_range(self.processors, self.threads, self.mutexes)
             && (1..=self.threads).contains(&self.born)
+            && self.stealing <= 1
     }
 }
 
@@ -155,6 +163,8 @@ pub struct Processor {
     pub sequence: u16,
     /// 0 none, 1 true, 2 false.
     pub answer: u8,
+    /// How many places after its own the ready queue is that CI2 tries next.
+    pub probe: u8,
 }
 
 #[derive(Clone, PartialEq, Eq, Debug, Default)]
@@ -179,7 +189,9 @@ pub struct State {
     pub processors: Vec<Processor>,
     pub mutexes: Vec<Mutex>,
     pub lives: Vec<Life>,
-    pub ready: VecDeque<u8>,
+    /// 0: `ready` has one queue; 1: one for each processor.
+    pub stealing: u8,
+    pub ready: Vec<VecDeque<u8>>,
     pub applied: u16,
 }
 
@@ -199,13 +211,20 @@ impl State {
             observed: Token::NONE,
             sequence: 0,
             answer: 0,
+            probe: 0,
         };
+        let queues = if config.stealing == 0 { 1 } else { usize::from(config.processors) };
+        let mut ready = vec![VecDeque::new(); queues];
+        for thread in config.processors + 1..=config.born {
+            ready[index(thread) % queues].push_back(thread);
+        }
         let life = |t: u8| if t <= config.born { Life::Alive } else { Life::Unborn };
         State {
             processors: (1..=config.processors).map(processor).collect(),
             mutexes: vec![Mutex::default(); usize::from(config.mutexes)],
             lives: (1..=config.threads).map(life).collect(),
-            ready: (config.processors + 1..=config.born).collect(),
+            stealing: config.stealing,
+            ready,
             applied: 0,
         }
     }
@@ -232,6 +251,20 @@ impl State {
 
     pub fn life(&self, t: u8) -> Life {
         self.lives[index(t)]
+    }
+
+    /// Whether no ready queue has a thread.
+    pub fn none_ready(&self) -> bool {
+        self.ready.iter().all(VecDeque::is_empty)
+    }
+
+    /// The index of processor p's own ready queue.
+    fn own(&self, p: u8) -> usize {
+        if self.stealing == 0 {
+            0
+        } else {
+            index(p)
+        }
     }
 
     fn mutex_mut(&mut self, m: u8) -> &mut Mutex {
@@ -341,15 +374,23 @@ impl State {
     fn run_line(&mut self, p: u8) {
         let mut here = *self.processor(p);
         let m = here.mutex;
+        let own = self.own(p);
         here.position = match here.position {
             App => unreachable!("go at App is refused"),
-            CI2 => match self.ready.pop_front() {
-                None => CI2,
-                Some(first) => {
-                    here.transit = first;
-                    CI3
+            CI2 => {
+                let queues = self.ready.len();
+                match self.ready[(own + usize::from(here.probe)) % queues].pop_front() {
+                    None => {
+                        here.probe = (here.probe + 1) % queues as u8;
+                        CI2
+                    }
+                    Some(first) => {
+                        here.probe = 0;
+                        here.transit = first;
+                        CI3
+                    }
                 }
-            },
+            }
             CI3 => {
                 here.current = take(&mut here.transit);
                 App
@@ -466,7 +507,7 @@ impl State {
                 }
             }
             H3 => {
-                self.ready.push_back(take(&mut here.transit));
+                self.ready[own].push_back(take(&mut here.transit));
                 App
             }
             H5 => {
@@ -491,7 +532,7 @@ impl State {
                 }
             }
             Y1 => {
-                if self.ready.is_empty() {
+                if self.ready[own].is_empty() {
                     App
                 } else {
                     Y2
@@ -502,11 +543,11 @@ impl State {
                 Y3
             }
             Y3 => {
-                self.ready.push_back(take(&mut here.transit));
+                self.ready[own].push_back(take(&mut here.transit));
                 CI2
             }
             C2 => {
-                self.ready.push_back(take(&mut here.transit));
+                self.ready[own].push_back(take(&mut here.transit));
                 App
             }
         };

@@ -36,11 +36,13 @@ pub fn fill(shown: &Snapshot, mut buffer: &mut [u8]) {
 /// Hands out a picture's bytes in order, a few at a time.
 fn lay(shown: &Snapshot, mut put: impl FnMut(&[u8])) {
     let [high, low] = shown.applied.to_be_bytes();
-    put(&[shown.processors, shown.threads, shown.mutexes, shown.ready_first, high, low, 0, 0]);
+    put(&[shown.processors, shown.threads, shown.mutexes, shown.ready_first]);
+    put(&[high, low, 0, shown.stealing]);
     for row in shown.processor_rows.iter().take(usize::from(shown.processors)) {
         let [observed, own] = [row.observed.sequence, row.sequence].map(u16::to_be_bytes);
-        put(&[row.position, row.current, row.transit, row.mutex, row.observed.processor, 0]);
-        put(&[observed[0], observed[1], own[0], own[1], row.answer, 0]);
+        put(&[row.position, row.current, row.transit, row.mutex]);
+        put(&[row.observed.processor, row.probe]);
+        put(&[observed[0], observed[1], own[0], own[1], row.answer, row.first]);
     }
     for row in shown.mutex_rows.iter().take(usize::from(shown.mutexes)) {
         let [high, low] = row.token.sequence.to_be_bytes();
@@ -68,10 +70,11 @@ pub fn raw_fields(bytes: &[u8]) -> Option<(Snapshot, bool)> {
         threads,
         mutexes,
         ready_first: bytes[3],
+        stealing: bytes[7],
         applied: wide(4),
         ..Snapshot::default()
     };
-    let mut unnamed = vec![6, 7];
+    let mut unnamed = vec![6];
     let mut at = HEADER;
     for row in shown.processor_rows.iter_mut().take(usize::from(processors)) {
         *row = ProcessorRow {
@@ -82,8 +85,9 @@ pub fn raw_fields(bytes: &[u8]) -> Option<(Snapshot, bool)> {
             observed: Token { processor: bytes[at + 4], sequence: wide(at + 6) },
             sequence: wide(at + 8),
             answer: bytes[at + 10],
+            probe: bytes[at + 5],
+            first: bytes[at + 11],
         };
-        unnamed.extend([at + 5, at + 11]);
         at += PROCESSOR_RECORD;
     }
     for row in shown.mutex_rows.iter_mut().take(usize::from(mutexes)) {

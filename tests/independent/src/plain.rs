@@ -101,7 +101,7 @@ pub fn call_under_way(state: &State, m: u8) -> bool {
 /// How many places hold a thread; unborn and ended are taken from the history.
 pub fn place_count(state: &State, history: &History, config: Config, thread: u8) -> usize {
     let held = |register: u8| usize::from(register == thread);
-    let in_ready = state.ready.iter().filter(|&&t| t == thread).count();
+    let in_ready = state.ready.iter().flatten().filter(|&&t| t == thread).count();
     let in_mutexes: usize = state
         .mutexes
         .iter()

@@ -1,4 +1,5 @@
-//! The line program: `start P T M B`, `move p a o`, `back`, `show`; anything else gets `?`.
+//! The line program: `start P T M B`, which may have a fifth number, `move p a o`, `back`, `show`;
+//! anything else gets `?`.
 
 use crate::machine::Config;
 use crate::picture;
@@ -34,6 +35,10 @@ fn parse(line: &[u8]) -> Option<Command> {
     match words[..] {
         [b"start", p, t, m, b] => {
             Some(Command::Start(Config::new(number(p)?, number(t)?, number(m)?, number(b)?)))
+        }
+        [b"start", p, t, m, b, stealing] => {
+            let config = Config::new(number(p)?, number(t)?, number(m)?, number(b)?);
+            Some(Command::Start(config.with_stealing(number(stealing)?)))
         }
         [b"move", p, a, o] => Some(Command::Move([number(p)?, number(a)?, number(o)?])),
         [b"back"] => Some(Command::Back),

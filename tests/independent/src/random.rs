@@ -190,7 +190,7 @@ impl Driver {
         if !near.is_empty() && self.generator.once_in(2) {
             return self.generator.pick(&near);
         }
-        let idle = |p: u8| state.processor(p).position == Position::CI2 && state.ready.is_empty();
+        let idle = |p: u8| state.processor(p).position == Position::CI2 && state.none_ready();
         let busy: Vec<u8> = all.iter().copied().filter(|&p| !idle(p) && p != kept).collect();
         let free: Vec<u8> =
             busy.iter().copied().filter(|&p| self.held[usize::from(p) - 1] == 0).collect();
@@ -311,7 +311,7 @@ impl Driver {
         let in_order = owned.iter().all(|&held| held < m);
         // Short queues make hand-offs by token likelier.
         let long = state.mutex(m).queue.len() > 1 && !self.generator.once_in(4);
-        if long && !state.ready.is_empty() {
+        if long && !state.none_ready() {
             [p, YIELD, 0]
         } else if choice < 30 || long || !in_order && !self.generator.once_in(30) {
             [p, TRYLOCK, m]
@@ -378,5 +378,5 @@ fn is_late(state: &State, p: u8) -> bool {
 
 /// Whether no processor can do anything but look at an empty ready queue.
 pub fn is_stuck(state: &State) -> bool {
-    state.ready.is_empty() && state.processors.iter().all(|here| here.position == Position::CI2)
+    state.none_ready() && state.processors.iter().all(|here| here.position == Position::CI2)
 }

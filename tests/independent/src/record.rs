@@ -23,6 +23,9 @@ pub struct ProcessorRow {
     pub observed: Token,
     pub sequence: u16,
     pub answer: u8,
+    pub probe: u8,
+    /// The first of its own ready chain.
+    pub first: u8,
 }
 
 #[derive(Clone, Copy, PartialEq, Eq, Debug, Default)]
@@ -36,7 +39,8 @@ pub struct MutexRow {
 #[derive(Clone, Copy, PartialEq, Eq, Debug, Default)]
 pub struct ThreadRow {
     pub place: u8,
-    /// The mutex (place 2) or processor (places 3, 4) that holds the thread.
+    /// The mutex (place 2) or processor (places 3, 4) that holds the thread; the processor whose
+    /// ready queue it is in (place 1), where each has one.
     pub holder: u8,
     pub next: u8,
 }
@@ -47,7 +51,9 @@ pub struct Snapshot {
     pub processors: u8,
     pub threads: u8,
     pub mutexes: u8,
+    /// The first of the single ready chain.
     pub ready_first: u8,
+    pub stealing: u8,
     pub applied: u16,
     pub processor_rows: [ProcessorRow; 8],
     pub mutex_rows: [MutexRow; 8],
@@ -77,6 +83,9 @@ fn processor_row_in_range(row: &ProcessorRow, shown: &Snapshot) -> bool {
         && token_in_range(row.observed, shown.processors)
         && row.sequence <= MOST_MOVES
         && row.answer <= 2
+        && row.first <= if shown.stealing == 0 { 0 } else { shown.threads }
+        && (row.probe == 0
+            || position == Position::CI2 && shown.stealing == 1 && row.probe < shown.processors)
         && (row.current != 0) == position.has_current()
         && (row.transit != 0) == position.has_transit()
         && (row.mutex != 0) == position.has_mutex()
@@ -92,6 +101,7 @@ fn mutex_row_in_range(row: &MutexRow, shown: &Snapshot) -> bool {
 
 fn thread_row_in_range(row: &ThreadRow, shown: &Snapshot) -> bool {
     let holder_fits = match row.place {
+        READY if shown.stealing == 1 => (1..=shown.processors).contains(&row.holder),
         UNBORN | READY | ENDED => row.holder == 0,
         WAITING => (1..=shown.mutexes).contains(&row.holder),
         CURRENT | TRANSIT => (1..=shown.processors).contains(&row.holder),
@@ -135,7 +145,8 @@ impl Snapshot {
     }
 
     fn fields_in_range(&self) -> bool {
-        self.ready_first <= self.threads
+        self.stealing <= 1
+            && self.ready_first <= if self.stealing == 0 { self.threads } else { 0 }
             && self.applied <= MOST_MOVES
             && self.used_processors().iter().all(|row| processor_row_in_range(row, self))
             && self.used_mutexes().iter().all(|row| mutex_row_in_range(row, self))
@@ -177,7 +188,14 @@ impl Snapshot {
     }
 
     fn chains_agree(&self) -> bool {
-        self.chain_agrees(self.ready_first, READY, 0)
+        let ready = if self.stealing == 0 {
+            self.chain_agrees(self.ready_first, READY, 0)
+        } else {
+            (1..=self.processors)
+                .zip(self.used_processors())
+                .all(|(p, row)| self.chain_agrees(row.first, READY, p))
+        };
+        ready
             && (1..=self.mutexes)
                 .zip(self.used_mutexes())
                 .all(|(m, row)| self.chain_agrees(row.first, WAITING, m))
@@ -200,6 +218,7 @@ impl Snapshot {
             processors: state.processor_count(),
             threads: state.thread_count(),
             mutexes: state.mutex_count(),
+            stealing: state.stealing,
             applied: state.applied,
             ..Snapshot::default()
         };
@@ -208,7 +227,9 @@ impl Snapshot {
                 row.place = ENDED;
             }
         }
-        shown.ready_first = shown.lay_chain(&state.ready, READY, 0);
+        if state.stealing == 0 {
+            shown.ready_first = shown.lay_chain(&state.ready[0], READY, 0);
+        }
         for (m, mutex) in (1..).zip(&state.mutexes) {
             let first = shown.lay_chain(&mutex.queue, WAITING, m);
             shown.mutex_rows[usize::from(m) - 1] =
@@ -217,6 +238,10 @@ impl Snapshot {
         for (p, processor) in (1..).zip(&state.processors) {
             shown.place_thread(processor.current, CURRENT, p);
             shown.place_thread(processor.transit, TRANSIT, p);
+            let first = match state.stealing {
+                0 => 0,
+                _ => shown.lay_chain(&state.ready[usize::from(p) - 1], READY, p),
+            };
             shown.processor_rows[usize::from(p) - 1] = ProcessorRow {
                 position: processor.position.number(),
                 current: processor.current,
@@ -225,6 +250,8 @@ impl Snapshot {
                 observed: processor.observed,
                 sequence: processor.sequence,
                 answer: processor.answer,
+                probe: processor.probe,
+                first,
             };
         }
         shown
@@ -271,7 +298,16 @@ impl Snapshot {
                 observed: row.observed,
                 sequence: row.sequence,
                 answer: row.answer,
+                probe: row.probe,
             });
+        }
+        let mut ready = Vec::new();
+        if self.stealing == 0 {
+            ready.push(queue(self.ready_first)?);
+        } else {
+            for row in self.used_processors() {
+                ready.push(queue(row.first)?);
+            }
         }
         let life = |row: &ThreadRow| match row.place {
             UNBORN => Life::Unborn,
@@ -282,7 +318,8 @@ impl Snapshot {
             processors,
             mutexes,
             lives: self.used_threads().iter().map(life).collect(),
-            ready: queue(self.ready_first)?,
+            stealing: self.stealing,
+            ready,
             applied: self.applied,
         })
     }
@@ -303,5 +340,6 @@ impl Record {
     pub fn config(&self) -> Config {
         let shown = &self.snapshot;
         Config::new(shown.processors, shown.threads, shown.mutexes, self.born)
+            .with_stealing(shown.stealing)
     }
 }

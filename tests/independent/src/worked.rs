@@ -1,6 +1,9 @@
-//! The worked sessions of document 01 as start tables and lists of moves.
+//! The worked sessions of document 01 as start tables and lists of moves, and two with a ready
+//! queue for each processor (document 02, No. 13).
 
-use crate::machine::{Config, Move, Position, State, GO, LOCK, TRYLOCK, UNLOCK, YIELD};
+use crate::machine::{
+    Config, Move, Position, State, CREATE, EXIT, GO, LOCK, TRYLOCK, UNLOCK, YIELD,
+};
 use crate::picture;
 use crate::record::{Record, Snapshot, ThreadRow, ENDED};
 
@@ -104,6 +107,45 @@ pub fn k8() -> Worked {
         .call(1, UNLOCK, 1)
         .go(1, 4)
         .go(2, 1)
+}
+
+/// With a ready queue for each of three processors: p exits its threads one after the other and
+/// takes those of its own queue, of the next and of the one after that; it yields in vain while
+/// only other queues have a thread, looks round at empty ones, and gets what the next makes ready.
+pub fn steals(p: u8) -> Worked {
+    let next = p % 3 + 1;
+    Worked::new(Config::new(3, 7, 1, 6).with_stealing(1))
+        .call(p, EXIT, 0)
+        .go(p, 2)
+        .call(p, YIELD, 0)
+        .go(p, 1)
+        .call(p, EXIT, 0)
+        .go(p, 3)
+        .call(p, EXIT, 0)
+        .go(p, 4)
+        .call(p, EXIT, 0)
+        .go(p, 4)
+        .call(next, CREATE, 7)
+        .go(next, 1)
+        .go(p, 2)
+}
+
+/// What two processors with a ready queue each make ready joins their own queues: threads that
+/// yield, are created and are handed a mutex.
+pub fn own_queues() -> Worked {
+    Worked::new(Config::new(2, 6, 1, 5).with_stealing(1))
+        .call(1, YIELD, 0)
+        .go(1, 5)
+        .call(2, CREATE, 6)
+        .go(2, 1)
+        .call(2, YIELD, 0)
+        .go(2, 5)
+        .call(1, LOCK, 1)
+        .go(1, 1)
+        .call(2, LOCK, 1)
+        .go(2, 6)
+        .call(1, UNLOCK, 1)
+        .go(1, 3)
 }
 
 /// K8 as a record: processor 2 at L8 with (1,1) observed, token (1,2), thread 2 queued.

@@ -342,9 +342,9 @@ fn check_by_history(before: &Worked, lesson: &Lesson, coverage: &mut Coverage) {
 }
 
 /// A class of so many turns after so many plain moves.
-fn random_class(seed: u64, plain: usize, turns: usize, coverage: &mut Coverage) {
+fn random_class(stealing: u8, seed: u64, plain: usize, turns: usize, coverage: &mut Coverage) {
     let mut driver = Driver::new(seed, Rates::ACCEPTED);
-    let config = driver.generator.config();
+    let config = driver.generator.config().with_stealing(stealing);
     let mut worked = Worked::new(config);
     let mut state = State::start(config);
     for _ in 0..plain {
@@ -364,16 +364,25 @@ fn random_class(seed: u64, plain: usize, turns: usize, coverage: &mut Coverage) 
 
 #[test]
 fn random_classes() {
+    laws_of_classes(0);
+}
+
+#[test]
+fn random_classes_with_a_ready_queue_for_each_processor() {
+    laws_of_classes(1);
+}
+
+fn laws_of_classes(stealing: u8) {
     let mut coverage = Coverage::default();
     for seed in 0..1_500 {
         let mut generator = Generator::new(!seed);
         let plain = if generator.once_in(3) { generator.below(60) } else { 0 };
-        random_class(seed, plain, generator.below(240), &mut coverage);
+        random_class(stealing, seed, plain, generator.below(240), &mut coverage);
     }
     // Some are long, some end at the most moves.
     for seed in 2_000..2_006 {
-        random_class(seed, 0, 1_500, &mut coverage);
-        random_class(seed + 10, 3_900, 300, &mut coverage);
+        random_class(stealing, seed, 0, 1_500, &mut coverage);
+        random_class(stealing, seed + 10, 3_900, 300, &mut coverage);
     }
     println!("{} classes, {} moves", coverage.classes, coverage.moves);
     println!("answers {:?}, calls {:?}", coverage.answers, coverage.calls);
@@ -392,7 +401,7 @@ fn random_classes() {
 fn classes_in_parts() {
     for seed in 0..200 {
         let mut generator = Generator::new(seed);
-        let config = generator.config();
+        let config = generator.config().with_stealing((seed % 2) as u8);
         let (scripts, turns) = (generator.scripts(config), generator.turns(config, 150));
         let mut whole = Lesson::new(&Worked::new(config), scripts, turns);
         let mut record = whole.record;
@@ -428,7 +437,7 @@ fn classes_in_parts() {
 fn random_bad_scripts() {
     for seed in 0..3_000 {
         let mut generator = Generator::new(seed);
-        let config = generator.config();
+        let config = generator.config().with_stealing((seed % 2) as u8);
         let record = session::start(config).value;
         for (scripts, wanted) in
             [(generator.bad_scripts(config), 19), (generator.scripts(config), 0)]

@@ -6,7 +6,7 @@ use independent::plain::{check_laws, History, Plain};
 use independent::random::{Call, Driver, Generator, Rates};
 use independent::record::{Record, Snapshot};
 use independent::session::{self, Ahead, JOURNAL};
-use std::collections::BTreeMap;
+use std::collections::{BTreeMap, BTreeSet};
 
 #[derive(Default)]
 struct Coverage {
@@ -16,6 +16,9 @@ struct Coverage {
     branches: BTreeMap<(Position, Position), usize>,
     /// L8 or GT3 finding a later token of the processor it observed.
     same_processor: usize,
+    /// The look numbers at which CI2 took a thread, and at which it went back to its own queue.
+    taken: BTreeSet<u8>,
+    rounds: BTreeSet<u8>,
 }
 
 /// Runs one session both as a record with a journal and as a plain list.
@@ -61,6 +64,15 @@ impl Sitting {
         assert_eq!(self.record.snapshot, Snapshot::of(&self.state));
         coverage.moves += 1;
         *coverage.branches.entry((here.position, after.position)).or_default() += 1;
+        match (here.position, after.position) {
+            (Position::CI2, Position::CI3) => {
+                coverage.taken.insert(here.probe);
+            }
+            (Position::CI2, Position::CI2) if after.probe == 0 => {
+                coverage.rounds.insert(here.probe);
+            }
+            _ => {}
+        }
         if here.position.has_observed() && here.position != Position::L7 {
             let token = before.mutex(here.mutex).token;
             let same = token.processor == here.observed.processor;
@@ -187,11 +199,53 @@ fn sit(config: Config, seed: u64, calls: usize, rates: Rates, coverage: &mut Cov
 
 #[test]
 fn laws_over_random_sessions() {
+    laws(0, 300_000);
+}
+
+#[test]
+fn laws_with_a_ready_queue_for_each_processor() {
+    laws(1, 300_000);
+}
+
+/// The picture of one processor's own ready queue with its bytes put as a single one has them.
+fn as_single(state: &State) -> Vec<u8> {
+    let mut bytes = picture::raw_bytes(&Snapshot::of(state));
+    bytes[7] -= 1;
+    bytes.swap(3, 8 + 11);
+    let threads = 8 + 12 + 8 * usize::from(bytes[2]);
+    for thread in bytes[threads..].chunks_exact_mut(4).filter(|thread| thread[0] == 1) {
+        thread[1] -= 1;
+    }
+    bytes
+}
+
+/// With one processor both choices go through equal states, but for what tells the choice.
+#[test]
+fn one_processor_alike() {
+    for seed in 0..60 {
+        let mut driver = Driver::new(seed, Rates::ACCEPTED);
+        let threads = 1 + driver.generator.between(0, 9);
+        let config = Config::new(1, threads, 2, driver.generator.between(1, threads));
+        let mut one = State::start(config);
+        let mut other = State::start(config.with_stealing(1));
+        for _ in 0..300 {
+            let made = driver.likely_move(&one);
+            assert_eq!(one.try_move(made), Ok(()));
+            assert_eq!(other.try_move(made), Ok(()));
+            let odd = driver.odd_move(&one);
+            assert_eq!(one.cause(odd), other.cause(odd));
+            assert_eq!(picture::raw_bytes(&Snapshot::of(&one)), as_single(&other));
+            assert_eq!(State { stealing: 0, ..other.clone() }, one);
+        }
+    }
+}
+
+fn laws(stealing: u8, least: usize) {
     let mut coverage = Coverage::default();
     let mut generator = Generator::new(1);
     let mut seed = 0;
-    while coverage.moves < 300_000 {
-        let config = generator.config();
+    while coverage.moves < least {
+        let config = generator.config().with_stealing(stealing);
         // Some sessions reach the most moves.
         let (calls, rates) = match generator.below(40) {
             0 => (4_500, Rates { refused: 20, undo: 2_000 }),
@@ -258,6 +312,9 @@ fn laws_over_random_sessions() {
     }
     assert_eq!(coverage.branches.len(), branches.len());
     assert!(coverage.same_processor > 0);
+    let looks = if stealing == 0 { 0..=0 } else { 0..=7 };
+    assert!(coverage.taken.iter().copied().eq(looks.clone()), "{:?}", coverage.taken);
+    assert!(coverage.rounds.iter().copied().eq(looks), "{:?}", coverage.rounds);
 }
 
 #[test]
@@ -268,7 +325,9 @@ fn all_sizes() {
             for m in 1..=8 {
                 let born = 1 + (p * 7 + t * 3 + m) % t;
                 let seed = u64::from(p) * 1_000_000 + u64::from(t) * 1_000 + u64::from(m);
-                sit(Config::new(p, t, m, born), seed, 24, Rates::USUAL, &mut coverage);
+                let config = Config::new(p, t, m, born);
+                sit(config, seed, 24, Rates::USUAL, &mut coverage);
+                sit(config.with_stealing(1), seed, 24, Rates::USUAL, &mut coverage);
             }
         }
     }
@@ -279,7 +338,7 @@ fn all_sizes() {
 fn plain_session_answers_alike() {
     for seed in 0..40 {
         let mut driver = Driver::new(seed, Rates { refused: 6, undo: 15 });
-        let config = driver.generator.config();
+        let config = driver.generator.config().with_stealing((seed % 2) as u8);
         let mut plain = Plain::new(config);
         let mut record = session::start(config).value;
         let mut journal = vec![seed as u8; JOURNAL];

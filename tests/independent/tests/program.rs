@@ -18,7 +18,7 @@ fn example() {
 
 #[test]
 fn other_lines() {
-    let lines: [&[u8]; 30] = [
+    let lines: [&[u8]; 32] = [
         b"",
         b" ",
         b"show ",
@@ -41,7 +41,9 @@ fn other_lines() {
         b"move +1 0 0",
         b"move 1\t0 0",
         b"start 1 1 1",
-        b"start 1 1 1 1 1",
+        b"start 1 1 1 1 1 1",
+        b"start 1 1 1 1 01",
+        b"start 1 1 1 1  1",
         b"start 256 1 1 1",
         b"start 1 1 1 1000",
         b"show\0",
@@ -57,6 +59,15 @@ fn other_lines() {
         assert_eq!(reader.feed(b"\n"), "?\n", "{line:?}");
     }
     assert_eq!(reader.feed(b"show\n"), format!("{EXAMPLE}\n"));
+}
+
+/// A fifth number over 1 is refused; left out it is 0.
+#[test]
+fn fifth_number() {
+    let own = format!("{}01{}", &EXAMPLE[..14], &EXAMPLE[16..]);
+    let input =
+        b"start 1 1 1 1 1\nshow\nstart 1 1 1 1 2\nstart 1 1 1 1 255\nshow\nstart 1 1 1 1 0\nshow\n";
+    assert_eq!(run(input), format!("0\n{own}\n1\n1\n{own}\n0\n{EXAMPLE}\n"));
 }
 
 #[test]

@@ -147,7 +147,12 @@ fn later_scripts() {
 #[test]
 fn starts() {
     let good = [script(&[[LOCK, 1]]); 32].concat();
-    for config in [Config::new(8, 32, 8, 32), Config::new(1, 1, 1, 1), Config::new(3, 5, 2, 2)] {
+    for config in [
+        Config::new(8, 32, 8, 32),
+        Config::new(1, 1, 1, 1),
+        Config::new(3, 5, 2, 2),
+        Config::new(3, 9, 2, 8).with_stealing(1),
+    ] {
         let whole = SCRIPT * usize::from(config.threads);
         for length in [whole, whole + 1, good.len()] {
             let answer = script::start(config, &good[..length.min(good.len())]);
@@ -161,7 +166,12 @@ fn starts() {
         assert_eq!((answer.number, answer.value), (19, Record::default()));
     }
     // 1 comes first.
-    for config in [Config::new(9, 1, 1, 1), Config::new(1, 0, 1, 1), Config::new(1, 33, 1, 1)] {
+    for config in [
+        Config::new(9, 1, 1, 1),
+        Config::new(1, 0, 1, 1),
+        Config::new(1, 33, 1, 1),
+        Config::new(1, 1, 1, 1).with_stealing(2),
+    ] {
         for scripts in [&good[..], &[], &[7; 500]] {
             let answer = script::start(config, scripts);
             assert_eq!((answer.number, answer.value), (1, Record::default()));

@@ -42,7 +42,7 @@ fn starts() {
         assert_eq!((answer.number, answer.value), (1, Record::default()));
     }
     let state = Worked::new(Config::new(2, 5, 1, 4)).state();
-    assert_eq!(state.ready, [3, 4]);
+    assert_eq!(state.ready[0], [3, 4]);
     let state = Worked::new(Config::new(3, 5, 1, 2)).state();
     assert_eq!(state.processor(3).position, Position::CI2);
     assert_eq!(state.processor(3).current, 0);

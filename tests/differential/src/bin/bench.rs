@@ -4,8 +4,8 @@
 //! path is in HUMDAYEG_MEASURE.
 
 use differential::classes::Class;
-use differential::sessions::{drive, Session};
-use differential::{class, expected, read, replay, MOST_PICTURE};
+use differential::sessions::{drive_with, Session};
+use differential::{class, expected, read, replay, replay_with, MOST_PICTURE};
 use independent::machine::{State, MOST_MOVES};
 use independent::picture;
 use independent::random::{Generator, Rates};
@@ -68,7 +68,7 @@ fn compare_times(
 }
 
 fn replay_in_rust(session: &Session, buffer: &mut [u8]) -> u8 {
-    let mut state = State::start(expected::config(session.table));
+    let mut state = State::start(expected::config(session.table).with_stealing(session.stealing));
     for made in session.moves.chunks_exact(3) {
         if let Err(number) = state.try_move([made[0], made[1], made[2]]) {
             return number;
@@ -84,19 +84,19 @@ fn full_class(generator: &mut Generator) -> Class {
         let scripts = generator.scripts(config);
         let mut turns = generator.turns(config, 2 * usize::from(MOST_MOVES));
         let table = expected::table(config);
-        let class = Class { table, scripts: scripts.clone(), turns: turns.clone() };
+        let class = Class { table, stealing: 0, scripts: scripts.clone(), turns: turns.clone() };
         let numbers = class.compare().answers;
         let mut number = numbers.iter();
         turns.retain(|_| number.next() == Some(&0));
         if turns.len() == usize::from(MOST_MOVES) {
-            return Class { table, scripts, turns };
+            return Class { turns, ..class };
         }
     }
 }
 
 /// One pass over the turns: the state and each thread's place in its script are carried along.
 fn class_in_rust(class: &Class, answers: &mut [u8], pictures: &mut [u8]) -> u8 {
-    let Class { table, scripts, turns } = class;
+    let Class { table, scripts, turns, .. } = class;
     let begun = script::start(expected::config(*table), scripts);
     script::class(&begun.value, &mut [0; JOURNAL], scripts, turns, answers, pictures).number
 }
@@ -112,7 +112,7 @@ fn compare_classes() {
         "a turn of a class, its picture too",
         most * classes.len(),
         || {
-            for Class { table, scripts, turns } in &classes {
+            for Class { table, scripts, turns, .. } in &classes {
                 assert_eq!(class(*table, scripts, turns, &mut answers, &mut pictures), 0);
             }
         },
@@ -207,9 +207,35 @@ fn compare_sessions(sessions: &[Session]) {
     );
 }
 
+/// Sessions of 4,000 moves with a choice of ready queues.
+fn sessions_with(stealing: u8) -> Vec<Session> {
+    let session = |seed| drive_with(stealing, seed, Rates::ACCEPTED, MOST_MOVES.into(), |_, _| ());
+    (0..20).map(session).collect()
+}
+
+/// The line on replays with a ready queue for each processor.
+fn compare_stealing() {
+    let sessions = sessions_with(1);
+    let moves: usize = sessions.iter().map(|session| session.moves.len() / 3).sum();
+    let (mut ours, mut theirs) = ([0; MOST_PICTURE], [0; MOST_PICTURE]);
+    compare(
+        "the same, a queue for each",
+        moves,
+        || {
+            for Session { table, moves, .. } in &sessions {
+                assert_eq!(replay_with(*table, 1, moves, &mut ours).number, 0);
+            }
+        },
+        || {
+            for session in &sessions {
+                assert_eq!(replay_in_rust(session, &mut theirs), 0);
+            }
+        },
+    );
+}
+
 fn main() {
-    let sessions: Vec<Session> =
-        (0..20).map(|seed| drive(seed, Rates::ACCEPTED, MOST_MOVES.into(), |_, _| ())).collect();
+    let sessions = sessions_with(0);
     let pictures: Vec<Vec<u8>> = sessions
         .iter()
         .flat_map(|session| session.states.iter().step_by(40))
@@ -234,6 +260,7 @@ fn main() {
             }
         },
     );
+    compare_stealing();
     compare(
         "a start and its picture written",
         200 * tables.len(),

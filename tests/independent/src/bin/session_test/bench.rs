@@ -2,8 +2,9 @@
 //!
 //! A command is known by its word's first letter. Each of the first group prints a line.
 //!
-//! - `start P T M B`, `move p a o`, `back`: the refusal, whether a field of the record changed and
-//!   whether a byte of the journal did. A start's record is taken, refused or not.
+//! - `start P T M B`, with a fifth number or without, `move p a o`, `back`: the refusal, whether a
+//!   field of the record changed and whether a byte of the journal did. A start's record is taken,
+//!   refused or not.
 //! - `front`: the refusal, the front's length and its bytes.
 //! - `picture`: the picture or its refusal, and B.
 //! - `hash`: a number that stands for the journal's 12,001 bytes.
@@ -15,7 +16,8 @@
 //!
 //! Of scripted threads, over a buffer of scripts and a list of turns, at first zero:
 //!
-//! - `init P T M B`: a scripted start; `turn p`: a turn. Both print what a start and a move do.
+//! - `init P T M B`, with a fifth number or without: a scripted start; `turn p`: a turn. Both print
+//!   what a start and a move do.
 //! - `drive n a q`: a class of the list's first n turns, lent a bytes of the answers and q of the
 //!   pictures. It prints what a move does, and numbers that stand for all answers and pictures.
 //! - `edit i a b c`: bytes i to i + 2 of the scripts become a, b, c. `order i a b c`: those of the
@@ -35,7 +37,8 @@ use std::fmt::Write;
 /// Numbers of fields. Each table begins with a row 0 that is zero in a record that keeps the rules.
 pub const APPLIED: usize = 3;
 pub const BORN: usize = 4;
-pub const FIELDS: usize = 221;
+pub const STEALING: usize = 221;
+pub const FIELDS: usize = 239;
 
 /// Lengths of the buffers of scripts, turns, answers and pictures.
 pub const SCRIPTS: usize = 420;
@@ -59,6 +62,15 @@ pub fn thread(k: usize, field: usize) -> usize {
     122 + 3 * k + field
 }
 
+/// The first of processor p's own ready queue.
+pub fn own_first(p: usize) -> usize {
+    221 + p
+}
+
+pub fn probe(p: usize) -> usize {
+    230 + p
+}
+
 /// A session record as its fields.
 #[derive(Clone, PartialEq)]
 pub struct Fields([u16; FIELDS]);
@@ -72,11 +84,14 @@ impl Fields {
         fields.0[APPLIED] = shown.applied;
         fields.0[BORN] = u16::from(record.born);
         fields.0[first(0)] = u16::from(shown.ready_first);
+        fields.0[STEALING] = u16::from(shown.stealing);
         for (p, row) in (1..).zip(&shown.processor_rows) {
             let bytes = [row.position, row.current, row.transit, row.mutex, row.observed.processor];
             fields.0[processor(p, 0)..][..5].copy_from_slice(&bytes.map(u16::from));
             let rest = [row.observed.sequence, row.sequence, u16::from(row.answer)];
             fields.0[processor(p, 5)..][..3].copy_from_slice(&rest);
+            fields.0[own_first(p)] = u16::from(row.first);
+            fields.0[probe(p)] = u16::from(row.probe);
         }
         for (m, row) in (1..).zip(&shown.mutex_rows) {
             fields.0[first(m)] = u16::from(row.first);
@@ -106,7 +121,11 @@ impl Fields {
     /// The record, or none if a row 0 is not zero.
     fn record(&self) -> Option<Record> {
         let zero = |from: usize, count: usize| self.0[from..][..count].iter().all(|&v| v == 0);
-        if !(zero(processor(0, 0), 8) && zero(mutex(0, 0), 4) && zero(thread(0, 0), 3)) {
+        if !(zero(processor(0, 0), 8)
+            && zero(mutex(0, 0), 4)
+            && zero(thread(0, 0), 3)
+            && zero(probe(0), 1))
+        {
             return None;
         }
         let mut shown = Snapshot {
@@ -114,6 +133,7 @@ impl Fields {
             threads: self.byte(1),
             mutexes: self.byte(2),
             ready_first: self.byte(first(0)),
+            stealing: self.byte(STEALING),
             applied: self.0[APPLIED],
             ..Snapshot::default()
         };
@@ -126,6 +146,8 @@ impl Fields {
                 observed: self.token(processor(p, 4)),
                 sequence: self.0[processor(p, 6)],
                 answer: self.byte(processor(p, 7)),
+                probe: self.byte(probe(p)),
+                first: self.byte(own_first(p)),
             };
         }
         for (m, row) in (1..).zip(&mut shown.mutex_rows) {
@@ -341,7 +363,10 @@ impl Bench {
             line.split(' ').skip(1).map(|word| word.parse().unwrap_or(0)).collect();
         let number = |i: usize| numbers[i];
         let byte = |i: usize| u8::try_from(numbers[i]).unwrap();
-        let config = || Config::new(byte(0), byte(1), byte(2), byte(3));
+        let config = || {
+            let fifth = numbers.get(4).map_or(0, |_| byte(4));
+            Config::new(byte(0), byte(1), byte(2), byte(3)).with_stealing(fifth)
+        };
         match line.as_bytes()[0] {
             b's' => {
                 let journal = self.journal.clone();

@@ -1,6 +1,8 @@
 //! The script: the sessions of document 01, and each refusal at its boundaries.
 
-use crate::bench::{first, mutex, processor, thread, Fields, APPLIED, BORN, FIELDS};
+use crate::bench::{
+    first, mutex, own_first, probe, processor, thread, Fields, APPLIED, BORN, FIELDS, STEALING,
+};
 use crate::scripted;
 use independent::machine::{
     Config, Move, Position, State, CREATE, EXIT, GO, LOCK, TRYLOCK, UNLOCK, YIELD,
@@ -14,6 +16,16 @@ use std::fmt::Write;
 /// The least length of a journal, one byte less and one more.
 pub const LENGTHS: [usize; 3] = [JOURNAL - 1, JOURNAL, JOURNAL + 1];
 pub const MOST: u16 = 4_000;
+
+/// What stands behind a start's four numbers.
+pub const FIFTHS: [&str; 5] = ["", " 0", " 1", " 2", " 255"];
+
+/// A start table's numbers; the fifth is left out where it is 0.
+pub fn table(config: Config) -> String {
+    let Config { processors, threads, mutexes, born, stealing } = config;
+    let fifth = if stealing == 0 { String::new() } else { format!(" {stealing}") };
+    format!("{processors} {threads} {mutexes} {born}{fifth}")
+}
 
 #[derive(Default)]
 pub struct Script(String);
@@ -34,8 +46,7 @@ impl Script {
     }
 
     pub fn start(&mut self, config: Config) {
-        let Config { processors, threads, mutexes, born } = config;
-        writeln!(self.0, "start {processors} {threads} {mutexes} {born}").unwrap();
+        writeln!(self.0, "start {}", table(config)).unwrap();
     }
 
     fn make(&mut self, [p, a, o]: Move) {
@@ -101,6 +112,13 @@ fn starts(s: &mut Script) {
                 }
             }
         }
+    }
+    s.say("# a fifth number");
+    for fifth in FIFTHS {
+        writeln!(s.0, "start 3 9 1 8{fifth}").unwrap();
+        s.all(&["picture", "move 1 4 0", "move 1 0 0", "back", "front"]);
+        writeln!(s.0, "start 3 9 1 10{fifth}\nstart 3 3 1 1{fifth}").unwrap();
+        s.say("picture");
     }
     for (p, t, m, b) in
         [(1, 1, 1, 1), (1, 2, 1, 1), (2, 5, 2, 4), (3, 5, 1, 2), (8, 32, 8, 1), (8, 9, 3, 9)]
@@ -180,6 +198,10 @@ fn worked_sessions(s: &mut Script) {
     there_and_back(s, "K8 by moves", &worked::k8());
     there_and_back(s, "creates, yields, exits", &tour());
     there_and_back(s, "other outcomes", &other_outcomes());
+    for p in 1..=3 {
+        there_and_back(s, &format!("processor {p} takes from all queues"), &worked::steals(p));
+    }
+    there_and_back(s, "threads that join their own queues", &worked::own_queues());
     s.say("# K8 with its record");
     s.load(&worked::k8_record());
     s.all(&["picture", "move 2 0 0", "picture", "front", "back"]);
@@ -346,11 +368,14 @@ fn highest(fields: &Fields, i: usize) -> u16 {
         1 => 32,
         APPLIED => MOST,
         BORN => t,
-        5 => t,
+        5 => t * (1 - fields.at(STEALING)),
         6..=13 => within(i - 5, m, t),
         14..=85 => within((i - 14) / 8, p, [24, t, t, m, p, MOST, MOST, 2][(i - 14) % 8]),
         86..=121 => within((i - 86) / 4, m, [t + 1, t, p, MOST][(i - 86) % 4]),
-        _ => within((i - 122) / 3, t, [5, p.max(m), t][(i - 122) % 3]),
+        122..=220 => within((i - 122) / 3, t, [5, p.max(m), t][(i - 122) % 3]),
+        STEALING => 1,
+        222..=229 => within(i - 221, p, t * fields.at(STEALING)),
+        _ => within(i - 230, p, (p - 1) * fields.at(STEALING)),
     }
 }
 
@@ -402,9 +427,13 @@ fn damaged_records(s: &mut Script) {
     let k7 = worked::k7();
     let at_gt3 = k7.front(k7.moves.len() - 3);
     let full = random(Config::new(8, 32, 8, 20), 5, 40);
-    for (name, one, made, few) in
-        [("K7 at GT3", at_gt3, [3, GO, 0], false), ("a full record", full, [0, GO, 0], true)]
-    {
+    let each = random(Config::new(4, 9, 2, 8).with_stealing(1), 7, 60);
+    for (name, one, made, few) in [
+        ("K7 at GT3", at_gt3, [3, GO, 0], false),
+        ("a full record", full, [0, GO, 0], true),
+        ("a record with a ready queue for each processor", each, [0, GO, 0], true),
+        ("a third look", worked::steals(1).front(12), [1, GO, 0], false),
+    ] {
         s.say("noise 6");
         s.played(&one);
         let record = Record { snapshot: one.snapshot(), born: one.config.born };
@@ -469,20 +498,36 @@ fn other_journals(s: &mut Script) {
     s.say("# 16: the same moves from another start");
     s.played(&worked::k5());
     s.say("keep");
-    for (field, value) in [(BORN, 1), (1, 3), (2, 2), (APPLIED, 15), (APPLIED, 17)] {
+    for (field, value) in [(BORN, 1), (1, 3), (2, 2), (APPLIED, 15), (APPLIED, 17), (STEALING, 1)] {
         s.change(field, value);
         s.all(&["back", "again"]);
     }
     s.say("noise 8");
     s.all(&["back", "again", "back", "picture"]);
+    s.say("# 16: another look number, another queue");
+    s.played(&worked::steals(2).front(12));
+    s.say("keep");
+    for value in [0, 1] {
+        s.change(probe(2), value);
+        s.all(&["back", "picture", "again"]);
+    }
+    for (field, value) in [(own_first(1), 0), (own_first(3), 4), (thread(4, 1), 3)] {
+        s.change(field, value);
+    }
+    s.all(&["picture", "back", "move 2 0 0", "again", "back", "picture"]);
 }
 
 /// Random sessions with refused calls and steps back.
 fn random_sessions(s: &mut Script) {
-    for (seed, (p, t, m, b)) in
-        (1..).zip([(2, 3, 1, 3), (3, 4, 2, 2), (5, 9, 2, 9), (8, 32, 8, 12)])
-    {
-        let config = Config::new(p, t, m, b);
+    for (seed, (p, t, m, b, stealing)) in (1..).zip([
+        (2, 3, 1, 3, 0),
+        (3, 4, 2, 2, 0),
+        (5, 9, 2, 9, 0),
+        (8, 32, 8, 12, 0),
+        (3, 9, 1, 8, 1),
+        (8, 32, 2, 24, 1),
+    ]) {
+        let config = Config::new(p, t, m, b).with_stealing(stealing);
         writeln!(s.0, "# random session {seed}").unwrap();
         writeln!(s.0, "noise {seed}").unwrap();
         s.start(config);

@@ -2,7 +2,7 @@
 //! is next, classes and their buffers.
 
 use crate::bench::{processor, ANSWERS, APPLIED, BORN, PICTURES, SCRIPTS, TURNS};
-use crate::script::{Script, LENGTHS, MOST};
+use crate::script::{table, Script, FIFTHS, LENGTHS, MOST};
 use independent::machine::{Config, CREATE, EXIT, LOCK, TRYLOCK, UNLOCK, YIELD};
 use independent::picture;
 use independent::random::Generator;
@@ -47,8 +47,7 @@ impl Writer<'_> {
     }
 
     fn init(&mut self, config: Config) {
-        let Config { processors, threads, mutexes, born } = config;
-        self.say(&format!("init {processors} {threads} {mutexes} {born}"));
+        self.say(&format!("init {}", table(config)));
     }
 
     /// Puts scripts, as bytes, at the front of their buffer.
@@ -169,6 +168,13 @@ fn order_at_turns(w: &mut Writer) {
         w.init(Config::new(2, 3, 1, 2));
         w.say("picture");
     }
+    w.say("# a fifth number: 1, then 19");
+    for length in [9 * SCRIPT - 1, 9 * SCRIPT] {
+        w.lend_scripts(length);
+        for fifth in FIFTHS {
+            w.all(&[&format!("init 3 9 1 8{fifth}"), "picture"]);
+        }
+    }
     w.say("# 10, 15, 19, 2, 3, 8, 6");
     w.say("noise 11");
     let config = Config::new(2, 3, 1, 2);
@@ -238,6 +244,12 @@ fn next_calls(w: &mut Writer) {
         &[[YIELD, 0], [LOCK, 1], [YIELD, 0], [UNLOCK, 1], [YIELD, 0], [TRYLOCK, 1]];
     let migrating = [1, 1, 2, 1, 2, 2, 2, 1, 1, 1, 2].repeat(9);
     taken(w, "threads that migrate", Config::new(2, 3, 1, 3), &[yields; 3], &migrating);
+    let each = Config::new(2, 3, 1, 3).with_stealing(1);
+    taken(w, "threads that stay", each, &[yields; 3], &migrating);
+    let idle: [&[Call]; 4] =
+        [&[[CREATE, 4], [YIELD, 0], [LOCK, 1]], &[], &[[LOCK, 1]], &[[YIELD, 0]]];
+    let each = Config::new(3, 4, 1, 3).with_stealing(1);
+    taken(w, "threads that are stolen", each, &idle, &[2, 3, 1, 2, 2, 1, 2].repeat(8));
     let creates: [&[Call]; 4] =
         [&[[CREATE, 2], [YIELD, 0]], &[[CREATE, 3]], &[[YIELD, 0], [CREATE, 4]], &[[YIELD, 0]]];
     taken(w, "creates", Config::new(2, 4, 1, 1), &creates, &[1, 2, 1].repeat(16));
@@ -402,10 +414,16 @@ fn buffers(w: &mut Writer) {
 
 /// Random scripts, several classes one after the other, plain moves and steps back between them.
 fn random_classes(w: &mut Writer) {
-    for (seed, (p, t, m, b)) in
-        (1..).zip([(2, 3, 1, 3), (3, 5, 2, 3), (4, 4, 1, 4), (5, 9, 2, 9), (8, 32, 8, 20)])
-    {
-        let config = Config::new(p, t, m, b);
+    for (seed, (p, t, m, b, stealing)) in (1..).zip([
+        (2, 3, 1, 3, 0),
+        (3, 5, 2, 3, 0),
+        (4, 4, 1, 4, 0),
+        (5, 9, 2, 9, 0),
+        (8, 32, 8, 20, 0),
+        (3, 9, 1, 8, 1),
+        (8, 32, 8, 20, 1),
+    ]) {
+        let config = Config::new(p, t, m, b).with_stealing(stealing);
         w.say(&format!("# random class {seed}"));
         let mut generator = Generator::new(seed);
         let scripts = generator.scripts(config);

@@ -141,14 +141,71 @@ fn moves() -> String {
         record.snapshot.processor_rows[0].sequence = sequence;
         text += &move_line(&record, JOURNAL, [1, 0, 0]);
     }
-    text += &every_move();
+    text += &every_move(&states::all());
     text
 }
 
-/// Every processor's goes and calls in every named state of three processors at most.
-fn every_move() -> String {
+/// A record with a ready queue for each processor that breaks one rule, for each rule of those.
+fn broken_each() -> Vec<Snapshot> {
+    let worked = worked::steals(1);
+    // Processor 1 at CI2 with look number 2, thread 6 in queue 3.
+    let whole = worked.front(worked.moves.len() - 11).snapshot();
+    let edits: [fn(&mut Snapshot); 16] = [
+        |s| s.stealing = 0,
+        |s| s.stealing = 2,
+        |s| s.stealing = 255,
+        |s| s.ready_first = 6,
+        |s| s.processor_rows[0].probe = 3,
+        |s| s.processor_rows[0].probe = 255,
+        |s| s.processor_rows[1].probe = 1,
+        |s| s.processor_rows[2].first = 0,
+        |s| s.processor_rows[2].first = 8,
+        |s| s.processor_rows[0].first = 6,
+        |s| s.processor_rows[1].first = 1,
+        |s| s.thread_rows[5].holder = 0,
+        |s| s.thread_rows[5].holder = 2,
+        |s| s.thread_rows[5].holder = 4,
+        |s| s.thread_rows[5].next = 6,
+        |s| s.thread_rows[5].place = 0,
+    ];
+    let mut list = vec![whole; edits.len()];
+    list.iter_mut().zip(edits).for_each(|(shown, edit)| edit(shown));
+    assert!(list.iter().all(|shown| shown.broken_rule().is_some()));
+    list
+}
+
+/// Moves and steps back with a ready queue for each processor.
+fn moves_each() -> String {
+    let mut text = every_move(&states::each());
+    for snapshot in broken_each() {
+        text += &move_line(&Record { snapshot, born: 6 }, JOURNAL, [1, 0, 0]);
+        text += &move_line(&Record { snapshot, born: 6 }, JOURNAL, [9, 0, 0]);
+    }
+    text
+}
+
+fn undos_each() -> String {
     let mut text = String::new();
-    for one in states::all().iter().filter(|one| one.snapshot.processors <= 3) {
+    for worked in [worked::steals(1), worked::steals(2), worked::own_queues()] {
+        for count in 0..=worked.moves.len() {
+            let stood = worked.front(count);
+            let record = Record { snapshot: stood.snapshot(), born: stood.config.born };
+            text += &undo_line(&record, JOURNAL, &stood.moves.concat());
+            let mut other = record;
+            other.snapshot.processor_rows[0].probe ^= 1;
+            text += &undo_line(&other, JOURNAL, &stood.moves.concat());
+        }
+    }
+    for snapshot in broken_each() {
+        text += &undo_line(&Record { snapshot, born: 6 }, JOURNAL, &[]);
+    }
+    text
+}
+
+/// Every processor's goes and calls in those named states that have three processors at most.
+fn every_move(named: &[states::Named]) -> String {
+    let mut text = String::new();
+    for one in named.iter().filter(|one| one.snapshot.processors <= 3) {
         let record = Record { snapshot: one.snapshot, born: one.snapshot.threads };
         for p in 1..=one.snapshot.processors {
             for made in
@@ -305,6 +362,8 @@ fn broken_turns() -> String {
 pub fn write_all(folder: &Folder) -> io::Result<()> {
     folder.write("move.list", moves().as_bytes())?;
     folder.write("undo.list", undos().as_bytes())?;
+    folder.write("each-move.list", moves_each().as_bytes())?;
+    folder.write("each-undo.list", undos_each().as_bytes())?;
     folder.write("turn.list", turns_taken().as_bytes())?;
     folder.write("front.list", fronts().as_bytes())?;
     folder.write("write.list", writes().as_bytes())?;

@@ -1,6 +1,6 @@
 //! Classes with the answers and the pictures that they must give.
 
-use crate::{field, Folder};
+use crate::{field, table, Folder};
 use independent::machine::{Config, State, CREATE, GO, LOCK, TRYLOCK, UNLOCK, YIELD};
 use independent::picture::{self, hex};
 use independent::random::Generator;
@@ -81,8 +81,7 @@ impl Class {
         let (answers, pictures) = self.rooms();
         let taken = self.take(answers, pictures);
         assert_eq!(taken.number, 0);
-        let Config { processors, threads, mutexes, born } = self.config;
-        let mut text = format!("table {processors} {threads} {mutexes} {born}\n");
+        let mut text = format!("table {}\n", table(self.config));
         writeln!(text, "scripts {}", field(&self.scripts)).unwrap();
         writeln!(text, "turns {}", field(&self.turns)).unwrap();
         writeln!(text, "answers {}", field(&taken.answers)).unwrap();
@@ -96,11 +95,9 @@ impl Class {
     /// A line of the list of refused classes.
     fn line(&self, answers: usize, pictures: usize) -> String {
         let number = self.take(answers, pictures).number;
-        let Config { processors, threads, mutexes, born } = self.config;
         let (scripts, turns) = (field(&self.scripts), field(&self.turns));
-        format!(
-            "{number} {processors} {threads} {mutexes} {born} {answers} {pictures} {scripts} {turns}\n"
-        )
+        let table = table(self.config);
+        format!("{number} {table} {answers} {pictures} {scripts} {turns}\n")
     }
 }
 
@@ -187,6 +184,52 @@ fn named() -> Vec<(String, String)> {
     all
 }
 
+/// Classes with a ready queue for each processor.
+fn each() -> Vec<(String, String)> {
+    let worked = [
+        ("k5", Worked { config: worked::k5().config.with_stealing(1), ..worked::k5() }),
+        ("steals-1", worked::steals(1)),
+        ("steals-3", worked::steals(3)),
+        ("own-queues", worked::own_queues()),
+    ];
+    let mut all: Vec<(String, String)> = worked
+        .iter()
+        .map(|(name, worked)| (format!("each-{name}"), Class::of(worked).text(true)))
+        .collect();
+    for (name, class) in [("migrations", migrations()), ("creates", creates()), ("spent", spent())]
+    {
+        let config = class.config.with_stealing(1);
+        all.push((format!("each-{name}"), Class { config, ..class }.text(true)));
+    }
+    let mut generator = Generator::new(13);
+    for seed in 1..=8 {
+        let config = generator.config().with_stealing(1);
+        let class = Class::random(seed, config, 60 * seed as usize);
+        all.push((format!("each-long-{seed}"), class.text(false)));
+    }
+    all
+}
+
+/// A fifth number in its range and outside it, with other causes after it.
+fn each_boundaries() -> String {
+    let calls: [&[Call]; 3] = [&[[YIELD, 0]; 2], &[], &[[LOCK, 1]]];
+    let mut text = String::new();
+    for fifth in [1, 2, 3, 128, 255] {
+        let config = Config::new(2, 3, 1, 3).with_stealing(fifth);
+        let mut class = Class::new(config, &calls, &[1, 2, 1, 2, 9]);
+        let (answers, pictures) = class.rooms();
+        text += &class.line(answers, pictures);
+        text += &class.line(answers - 1, pictures);
+        text += &class.line(answers, pictures - 1);
+        class.scripts.pop();
+        text += &class.line(answers, pictures);
+        text += &class.line(0, 0);
+        class.config.born = 4;
+        text += &class.line(0, 0);
+    }
+    text
+}
+
 /// Classes at the boundaries of 1, 19 and 10, accepted ones between them.
 fn boundaries() -> String {
     let mut text = String::new();
@@ -221,8 +264,9 @@ fn boundaries() -> String {
 }
 
 pub fn write_all(folder: &Folder) -> io::Result<()> {
-    for (name, text) in named() {
+    for (name, text) in named().into_iter().chain(each()) {
         folder.write(&format!("{name}.txt"), text.as_bytes())?;
     }
-    folder.write("boundaries.list", boundaries().as_bytes())
+    folder.write("boundaries.list", boundaries().as_bytes())?;
+    folder.write("each-boundaries.list", each_boundaries().as_bytes())
 }

@@ -7,6 +7,7 @@ mod sessions;
 mod states;
 mod turns;
 
+use independent::machine::Config;
 use independent::picture::hex;
 use std::path::{Path, PathBuf};
 use std::{env, fs, io};
@@ -34,6 +35,13 @@ pub fn field(bytes: &[u8]) -> String {
         [] => "-".to_string(),
         _ => hex(bytes),
     }
+}
+
+/// A start table's numbers; the fifth is left out where it is 0.
+pub fn table(config: Config) -> String {
+    let Config { processors, threads, mutexes, born, stealing } = config;
+    let fifth = if stealing == 0 { String::new() } else { format!(" {stealing}") };
+    format!("{processors} {threads} {mutexes} {born}{fifth}")
 }
 
 fn main() -> io::Result<()> {

@@ -141,8 +141,25 @@ fn edit(shown: &Snapshot, bytes: &mut [u8], generator: &mut Generator) {
     }
 }
 
+/// The same where each processor has a ready queue: now and then of a chain's first, of the queue
+/// of a ready thread or of a look number.
+fn edit_each(shown: &Snapshot, bytes: &mut [u8], generator: &mut Generator) {
+    let (p, t) = (shown.processors, shown.threads);
+    let any_p = generator.below(p.into());
+    let any_t = generator.below(t.into());
+    match generator.below(6) {
+        0 => bytes[processor_byte(any_p, 11)] = generator.between(0, t),
+        1 => {
+            bytes[thread_byte(shown, any_t, 0)] = 1;
+            bytes[thread_byte(shown, any_t, 1)] = generator.between(0, p + 1);
+        }
+        2 => bytes[processor_byte(any_p, 5)] = generator.between(0, p),
+        _ => edit(shown, bytes, generator),
+    }
+}
+
 /// Pictures after one to three edits, some of each number.
-fn edits(named: &[states::Named]) -> String {
+fn edits(named: &[states::Named], edit: fn(&Snapshot, &mut [u8], &mut Generator)) -> String {
     let mut generator = Generator::new(77);
     let mut text = String::new();
     for one in named {
@@ -165,16 +182,27 @@ fn edits(named: &[states::Named]) -> String {
 }
 
 pub fn write_all(folder: &Folder) -> io::Result<()> {
-    let named = states::all();
-    for one in &named {
+    let (named, each) = (states::all(), states::each());
+    let with_values = [
+        "start-1-1-1-1",
+        "k4-end",
+        "k5-l8",
+        "k6-h3",
+        "k7-gt3",
+        "deep-3-7-2",
+        "each-start-3-8-2-7",
+        "each-look-2",
+        "each-deep-3-7-2",
+    ];
+    for one in named.iter().chain(&each) {
         let bytes = raw_bytes(&one.snapshot);
         assert_eq!(number(&bytes), 0);
         folder.write(&format!("{}.txt", one.name), with_damages(&bytes).as_bytes())?;
-        if ["start-1-1-1-1", "k4-end", "k5-l8", "k6-h3", "k7-gt3", "deep-3-7-2"].contains(&one.name)
-        {
+        if with_values.contains(&one.name) {
             folder.write(&format!("{}.values", one.name), all_values(&bytes).as_bytes())?;
         }
     }
     folder.write("heads.list", heads().as_bytes())?;
-    folder.write("edits.list", edits(&named).as_bytes())
+    folder.write("edits.list", edits(&named, edit).as_bytes())?;
+    folder.write("each-edits.list", edits(&each, edit_each).as_bytes())
 }

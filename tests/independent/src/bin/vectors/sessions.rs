@@ -1,6 +1,6 @@
 //! Scripts for the line program with the output it must give.
 
-use crate::Folder;
+use crate::{table, Folder};
 use independent::machine::{Config, State};
 use independent::program;
 use independent::random::{is_stuck, Call, Driver, Generator, Rates};
@@ -18,8 +18,7 @@ fn script<T: AsRef<[u8]>>(lines: &[T]) -> Vec<u8> {
 }
 
 fn start_line(config: Config) -> String {
-    let Config { processors, threads, mutexes, born } = config;
-    format!("start {processors} {threads} {mutexes} {born}")
+    format!("start {}", table(config))
 }
 
 fn move_line([p, a, o]: [u8; 3]) -> String {
@@ -312,6 +311,22 @@ fn odd_lines() -> Vec<u8> {
     script(&lines)
 }
 
+/// Fifth numbers of a start: taken, refused, and lines that are no command.
+fn fifth_numbers() -> Vec<u8> {
+    let mut lines = Vec::new();
+    for fifth in [
+        "", " 0", " 1", " 2", " 9", " 255", " 256", " 01", " 00", " 1 ", "  1", " 1 1", " x", " -1",
+    ] {
+        lines.extend([format!("start 2 5 1 4{fifth}"), "show".to_string()]);
+        lines.extend(["move 1 4 0", "move 1 0 0", "show"].map(str::to_string));
+    }
+    for table in ["0 5 1 4", "2 33 1 4", "2 5 9 4", "2 5 1 6"] {
+        lines.extend(["0", "1", "2"].map(|fifth| format!("start {table} {fifth}")));
+    }
+    lines.push("show".to_string());
+    script(&lines)
+}
+
 fn long_lines() -> Vec<u8> {
     let mut lines: Vec<Vec<u8>> = vec![b"start 1 1 1 1".to_vec(), b"show".to_vec()];
     for length in [59, 60, 61, 63, 64, 65, 66, 127, 128, 129, 130, 255, 256, 257] {
@@ -460,9 +475,14 @@ fn fixed() -> Vec<(&'static str, Vec<u8>)> {
         ),
         ("refusals", refusals()),
         ("odd-lines", odd_lines()),
+        ("fifth-numbers", fifth_numbers()),
         ("long-lines", long_lines()),
         ("any-bytes", any_bytes()),
         ("noise", noise()),
+        ("each-steals-1", shown(&worked::steals(1), &["back", "back", "show"])),
+        ("each-steals-2", shown(&worked::steals(2), &["back", "back", "show"])),
+        ("each-steals-3", there_and_back(&worked::steals(3))),
+        ("each-own-queues", shown(&worked::own_queues(), &[])),
         ("back-k7", there_and_back(&worked::k7())),
         ("back-k8", there_and_back(&worked::k8())),
         ("most-moves", most_moves()),
@@ -481,6 +501,11 @@ pub fn write_all(folder: &Folder) -> io::Result<()> {
     for (seed, (p, t, m)) in (1..).zip(few) {
         let input = random_session(Config::new(p, t, m, t), seed, 700, 10);
         all.push((format!("contention-{seed}"), input));
+    }
+    let each = [(1, 3, 1), (2, 5, 1), (3, 9, 2), (5, 12, 1), (8, 32, 2), (8, 24, 8)];
+    for (seed, (p, t, m)) in (1..).zip(each) {
+        let config = Config::new(p, t, m, t - t / 8).with_stealing(1);
+        all.push((format!("each-{seed}"), random_session(config, seed, 300, 10)));
     }
     for (name, input) in all {
         folder.write(&format!("{name}.in"), &input)?;

@@ -16,7 +16,8 @@ fn earlier(worked: &Worked, less: usize) -> Snapshot {
 }
 
 /// A state of a random session of accepted moves: the first from `least` moves on in which
-/// at least `waiting` threads wait, two are ready and a processor has observed a token.
+/// at least `waiting` threads wait, two are ready in the first ready queue and a processor has
+/// observed a token.
 /// Seeds are tried one after the other.
 fn deep(config: Config, seed: u64, least: u16, waiting: usize) -> Snapshot {
     (seed..).find_map(|seed| deep_from(config, seed, least, waiting)).expect("a deep state")
@@ -29,12 +30,13 @@ fn deep_from(config: Config, seed: u64, least: u16, waiting: usize) -> Option<Sn
         state.try_move(driver.likely_move(&state)).ok()?;
         let queued: usize = state.mutexes.iter().map(|mutex| mutex.queue.len()).sum();
         let observed = state.processors.iter().any(|here| here.observed.processor != 0);
-        if state.applied >= least && queued >= waiting && state.ready.len() >= 2 && observed {
+        if state.applied >= least && queued >= waiting && state.ready[0].len() >= 2 && observed {
             return Some(Snapshot::of(&state));
         }
     }
 }
 
+/// With a single ready queue.
 pub fn all() -> Vec<Named> {
     let start = |p, t, m, b| Worked::new(Config::new(p, t, m, b)).snapshot();
     let (k4, k5, k6, k7, k8) =
@@ -62,5 +64,29 @@ pub fn all() -> Vec<Named> {
         ("deep-8-32-8-b", deep(Config::new(8, 32, 8, 32), 100, 3_000, 5)),
         ("deep-8-32-1", deep(Config::new(8, 32, 1, 32), 200, 300, 3)),
     ];
+    named(list)
+}
+
+/// With a ready queue for each processor: starts, looks on the way to a thread and after the last
+/// queue, queues that grew, deep states.
+pub fn each() -> Vec<Named> {
+    let of = |p, t, m, b| Config::new(p, t, m, b).with_stealing(1);
+    let start = |p, t, m, b| Worked::new(of(p, t, m, b)).snapshot();
+    let (steals, own) = (worked::steals(2), worked::own_queues());
+    named([
+        ("each-start-1-1-1-1", start(1, 1, 1, 1)),
+        ("each-start-3-8-2-7", start(3, 8, 2, 7)),
+        ("each-start-8-32-8-32", start(8, 32, 8, 32)),
+        ("each-look-1", earlier(&steals, 16)),
+        ("each-look-2", earlier(&steals, 11)),
+        ("each-looked-round", earlier(&steals, 5)),
+        ("each-stolen", earlier(&steals, 10)),
+        ("each-own", earlier(&own, 0)),
+        ("each-deep-3-7-2", deep(of(3, 7, 2, 7), 11, 150, 2)),
+        ("each-deep-8-32-8", deep(of(8, 32, 8, 20), 1, 400, 5)),
+    ])
+}
+
+fn named<const N: usize>(list: [(&'static str, Snapshot); N]) -> Vec<Named> {
     list.into_iter().map(|(name, snapshot)| Named { name, snapshot }).collect()
 }

@@ -16,7 +16,7 @@ pub fn line(shown: &Snapshot, thread: u8) -> String {
 }
 
 pub fn write_all(folder: &Folder) -> io::Result<()> {
-    for one in states::all() {
+    for one in states::all().into_iter().chain(states::each()) {
         let shown = &one.snapshot;
         let mut text = String::new();
         writeln!(text, "picture {}", hex(&raw_bytes(shown))).unwrap();
