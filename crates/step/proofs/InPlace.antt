@@ -1,55 +1,45 @@
 -- Moves in place: what a move sees and makes of the parts of a record is what it sees and makes of the record, one more move, and the end.
 -- Assumes nothing.
 use Prim.Native.Nat.{ℕ, zero, suc, _+_, _-_, _*_, _/_, _<_}
-use mathlib.Core.Bool.{Bool, true, false, not, _&&_}
+use mathlib.Core.Bool.{Bool, true, false, not, _&&_, true≢false}
 use mathlib.Core.List.{List, [], _∷_}
 use mathlib.Core.Path.{_≡_, refl, sym, ap, _∙_}
 use native.Mathlib.Omega.{arith}
 use lib.Dec.{eqb, leb}
 use lib.ListN.{length, getD, set, length-set}
-use borrow.Author.Tests.{ne-eqb, eqb-true, eqb-false}
+use lib.Seq.{set-getD}
+use borrow.Author.Tests.{ne-eqb, le-leb, lt-leb, leb-false, eqb-true, eqb-false}
 use Rattle.reference.specs.Lists.{choose, in-range}
 use Rattle.reference.specs.Refusal.{refuse}
 use Rattle.state.specs.declared.Thread.{Thread}
 use Rattle.state.specs.declared.Processor.{Processor}
 use Rattle.state.specs.declared.Mutex.{Mutex}
 use Rattle.state.specs.declared.State.{State}
-use Rattle.state.specs.Record.{processor-in, mutex-in, processor-of, mutex-of, thread-of}
+use Rattle.state.specs.Record.{zero-mutex, processor-in, mutex-in, processor-of, mutex-of, thread-of}
 use Rattle.state.specs.Model.{bytes-of, with-applied}
 use Rattle.state.proofs.Sized.{Sized}
 use Rattle.state.proofs.Bytes.{found-taken, bytes-status, bytes-length}
 use Rattle.step.specs.declared.View.{View}
 use Rattle.step.specs.declared.Effect.{Effect}
+use Rattle.step.specs.declared.Outcome.{Outcome}
 use Rattle.step.specs.declared.Moved.{Moved}
 use Rattle.step.specs.declared.Run.{Run}
 use Rattle.step.specs.declared.Sizes.{Sizes}
-use Rattle.step.specs.Model.{target-of, index-of, view-of, seen-of, carried, carried-firsts, carried-threads, act-effect, up-to, gathered-of, cause-of, step-breaks-of, refusal-of, stepped-of, moved-of, moved-at, sizes-of, refusal-seen, go-refusal, call-refusal, breaks-at, ran, run-from, run-of, noted, noted-at, counted-from, counted-of}
+use Rattle.step.specs.Model.{target-of, index-of, view-of, seen-of, carried, carried-firsts, carried-threads, act-effect, up-to, gathered-of, cause-of, step-breaks-of, refusal-of, stepped-of, moved-of, moved-at, sizes-of, cause-seen, go-refusal, call-refusal, act-outcome, ran, run-from, run-of, noted, noted-at, counted-from, counted-of}
+use Rattle.step.proofs.Keeps.{keeps}
 use Rattle.step.proofs.Put.{carried-first, carried-bytes, length-firsts, length-threads}
 
 -- ---- what a move sees
 
-pub seen-view : (s : State) (p m : ℕ) →
-    seen-of (s .chains .firsts) (bytes-of (s .chains .threads)) (s .stealing) (s .p) p (processor-of s p) m (mutex-of s m) ≡ view-of s p m
-seen-view s p m = rw (found-taken (s .chains) m, found-taken (s .chains) (index-of (s .stealing) (s .p) p (processor-of s p)))
+seen-view : (s : State) (p m : ℕ) (b : List ℕ) (r : Processor) (x : Mutex) → b ≡ bytes-of (s .chains .threads) → r ≡ processor-of s p → x ≡ mutex-of s m →
+    seen-of (s .chains .firsts) b (s .stealing) (s .p) p r m x ≡ view-of s p m
+seen-view s p m b r x b-is r-is x-is =
+    rw (b-is, r-is, x-is, found-taken (s .chains) m, found-taken (s .chains) (index-of (s .stealing) (s .p) p (processor-of s p)))
 
--- ---- why it is refused
-
--- no cause is 15 where a go would break no rule, else 15 comes last
-go-last : (x y z p b : Bool) →
-    refuse x 2 (refuse y 3 (refuse z 8 (refuse p 5 (refuse b 15 0)))) ≡
-    choose (eqb (refuse x 2 (refuse y 3 (refuse z 8 (refuse p 5 0)))) 0) (choose b 15 0) (refuse x 2 (refuse y 3 (refuse z 8 (refuse p 5 0))))
-go-last true y z p b = refl
-go-last false true z p b = refl
-go-last false false true p b = refl
-go-last false false false true b = refl
-go-last false false false false true = refl
-go-last false false false false false = refl
-
-call-last : (n : ℕ) → n ≡ choose (eqb n 0) 0 n
-call-last zero = refl
-call-last (suc n) = rw (ne-eqb (suc n) 0 (λ e. omega arith))
+-- ---- why it is refused: before it is tried, and once it is tried
 
 module _ (s : State) (p a o : ℕ) where
+  -- the mutex that it works on
   abbrev at : ℕ
   at = target-of a (processor-of s p .mutex) o
 
@@ -59,42 +49,49 @@ module _ (s : State) (p a o : ℕ) where
   owner-same false e = refl
   owner-same true e = rw (eqb-true a 3 e)
 
-  refusal-call : (a ≡ 0 → ⊥) → refusal-seen (sizes-of s) (view-of s p at) (thread-of s o .status) a o ≡ refusal-of s p a o
-  unfolding refusal-seen call-refusal refusal-of cause-of step-breaks-of
-  refusal-call h = rw (ne-eqb a 0 h, owner-same (eqb a 3) refl) (call-last _)
+  cause-call : (a ≡ 0 → ⊥) → cause-seen (sizes-of s) (view-of s p at) (thread-of s o .status) a o ≡ cause-of s p a o
+  unfolding cause-seen call-refusal cause-of
+  cause-call h = rw (ne-eqb a 0 h, owner-same (eqb a 3) refl)
 
-refusal-go : (s : State) (p o : ℕ) →
-    refusal-seen (sizes-of s) (view-of s p (processor-of s p .mutex)) (thread-of s o .status) 0 o ≡ refusal-of s p 0 o
-unfolding refusal-seen go-refusal refusal-of cause-of step-breaks-of
-refusal-go s p o =
-    go-last (not (in-range 1 (s .p) p)) (not (eqb o 0)) (leb 4000 (s .applied)) (eqb (processor-of s p .position) 0)
-    (breaks-at (s .t) (view-of s p (processor-of s p .mutex)))
+cause-is : (s : State) (p a o : ℕ) →
+    cause-seen (sizes-of s) (view-of s p (at s p a o)) (thread-of s o .status) a o ≡ cause-of s p a o
+unfolding cause-seen go-refusal cause-of
+cause-is s p zero o = refl
+cause-is s p (suc a) o = cause-call s p (suc a) o (λ e. omega arith)
 
-pub refusal-is : (s : State) (p a o : ℕ) →
-    refusal-seen (sizes-of s) (view-of s p (target-of a (processor-of s p .mutex) o)) (thread-of s o .status) a o ≡ refusal-of s p a o
-refusal-is s p zero o = refusal-go s p o
-refusal-is s p (suc a) o = refusal-call s p (suc a) o (λ e. omega arith)
+refused-is : (s : State) (p a o : ℕ) → (cause-of s p a o ≡ 0 → ⊥) → cause-of s p a o ≡ refusal-of s p a o
+unfolding refusal-of
+refused-is s p a o h = rw (ne-eqb (cause-of s p a o) 0 h)
 
--- no other move than a create asks for a status
-pub status-only : (z : Sizes) (v : View) (n a o : ℕ) → refusal-seen z v (choose (eqb a 6) n 0) a o ≡ refusal-seen z v n a o
-unfolding refusal-seen call-refusal
-status-only z v n a o = by (eqb a 6) refl
+-- an action that is none is refused
+no-action : (s : State) (p a o : ℕ) → 6 < a → cause-of s p a o ≡ 0 → ⊥
+unfolding cause-of
+no-action s p a o h e = by (not (in-range 1 (s .p) p)) (leb a 6) _ _ (lt-leb a 6 h) e
   where
-    by : (t : Bool) → eqb a 6 ≡ t → refusal-seen z v (choose (eqb a 6) n 0) a o ≡ refusal-seen z v n a o
-    by true e = rw e
-    by false e = rw e
+    by : (x t b : Bool) (n : ℕ) → t ≡ false → refuse x 2 (refuse (not (t && b)) 3 n) ≡ 0 → ⊥
+    by true t b n d q = omega arith
+    by false true b n d q = true≢false d
+    by false false b n d q = omega arith
+
+-- it is tried: refused by 15 or not at all
+tried-is : (s : State) (p a o : ℕ) → cause-of s p a o ≡ 0 →
+    refusal-of s p a o ≡ choose (act-outcome (s .t) a o (view-of s p (at s p a o)) .broken) 15 0
+unfolding refusal-of step-breaks-of act-outcome
+tried-is s p zero o z = rw z
+tried-is s p (suc a) o z = rw (z, ne-eqb (suc a) 0 (λ e. omega arith)) (by _ (leb (suc a) 6) refl)
+  where
+    by : (broken t : Bool) → leb (suc a) 6 ≡ t → _≡_ {A = ℕ} 0 (choose (not (in-range 1 6 (suc a)) && broken) 15 0)
+    by broken true e = rw (le-leb 1 (suc a) (omega arith), e)
+    by broken false e = absurd (no-action s p (suc a) o (leb-false (suc a) 6 e) z)
 
 -- ---- what it makes
 
 module _ (s : State) (p a o : ℕ) where
-  abbrev m : ℕ
-  m = target-of a (processor-of s p .mutex) o
-
   abbrev e : Effect
-  e = act-effect a o (view-of s p m)
+  e = act-effect a o (view-of s p (at s p a o))
 
   pub stepped-is : gathered-of s (carried-firsts (s .chains .firsts) (e .transfer)) (carried (s .chains) p (e .transfer) .threads) (set (s .processors) p (e .proc))
-      (set (s .mutexes) m (e .mutex)) (up-to 65535 (s .applied)) ≡ stepped-of s p a o
+      (set (s .mutexes) (at s p a o) (e .mutex)) (up-to 65535 (s .applied)) ≡ stepped-of s p a o
   unfolding stepped-of
   stepped-is = rw (carried-first (s .chains) p (e .transfer))
 
@@ -262,78 +259,166 @@ module _ (start : State) (j first : List ℕ) (i : ℕ) (s : State) (calls f b :
     sym (counted-end j i record-of calls) ∙ ap (λ (n : ℕ). counted-from j (n - i) i record-of calls) e ∙ g .uncounted,
   )
 
-  module _ (h : i < length j / 3) where
-    abbrev p : ℕ
-    p = getD j (3 * i) 0
+-- the next move, as the code has read it: its processor, its mutex, what it sees
+pub record Reading (start : State) (j first : List ℕ) : Type 0 where
+  pub made : ℕ
+  pub state : State
+  pub calls : List ℕ
+  pub firsts : List ℕ
+  pub bytes : List ℕ
+  pub processors : List Processor
+  pub mutexes : List Mutex
+  pub running : Running start j first made state calls firsts bytes processors mutexes
+  pub more : made < length j / 3
+  pub processor : Processor
+  pub target : ℕ
+  pub mutex : Mutex
+  pub view : View
+  pub processor-is : processor ≡ processor-in processors (getD j (3 * made) 0)
+  pub target-is : target ≡ target-of (getD j (3 * made + 1) 0) (processor .mutex) (getD j (3 * made + 2) 0)
+  pub mutex-is : mutex ≡ mutex-in mutexes target
+  pub view-is : view ≡ seen-of firsts bytes (state .stealing) (state .p) (getD j (3 * made) 0) processor target mutex
+  pub sizes : Sizes
+  pub sizes-is : sizes ≡ sizes-of state
 
-    abbrev a : ℕ
-    a = getD j (3 * i + 1) 0
+module _ {start : State} {j first : List ℕ} (here : Reading start j first) where
+  abbrev i : ℕ
+  i = here .made
 
-    abbrev o : ℕ
-    o = getD j (3 * i + 2) 0
+  abbrev s : State
+  s = here .state
 
-    module _ (r : Processor) (m : ℕ) (x : Mutex) (v : View) (r-is : r ≡ processor-in ps p) (m-is : m ≡ target-of a (r .mutex) o)
-        (x-is : x ≡ mutex-in xs m) (v-is : v ≡ seen-of f b (s .stealing) (s .p) p r m x) where
-      target-is : m ≡ target-of a (processor-of record-of p .mutex) o
-      target-is = m-is ∙ ap (λ (q : Processor). target-of a (q .mutex) o) r-is
+  abbrev calls : List ℕ
+  calls = here .calls
 
-      sees : v ≡ view-of record-of p (target-of a (processor-of record-of p .mutex) o)
-      sees =
-          v-is ∙ rw (x-is, r-is, g .bytes) (seen-view record-of p m) ∙ ap (view-of record-of p) target-is
+  abbrev f : List ℕ
+  f = here .firsts
 
-      pub caused : (k : ℕ) → k ≡ refusal-seen (sizes-of s) v (getD b (3 * o) 0) a o → k ≡ refusal-of record-of p a o
-      caused k e = e ∙ rw (sees, g .bytes, bytes-status (g .threads) o) (refusal-is record-of p a o)
+  abbrev b : List ℕ
+  b = here .bytes
 
-      pub running-stop : (k : ℕ) → k ≡ refusal-seen (sizes-of s) v (getD b (3 * o) 0) a o → (k ≡ 0 → ⊥) →
-          (ran k i record-of ≡ run-of start j) × (calls ≡ counted-of start j first)
-      running-stop k e z = (
-        ap (λ (n : ℕ). ran n i record-of) (caused k e) ∙ sym (run-stop j (length j / 3) i record-of h (λ q. z (caused k e ∙ q))) ∙ g .left,
-        sym (counted-stop j (length j / 3) i record-of h calls (λ q. z (caused k e ∙ q))) ∙ g .uncounted,
-      )
+  abbrev ps : List Processor
+  ps = here .processors
 
-      module _ (k : ℕ) (k-is : k ≡ refusal-seen (sizes-of s) v (getD b (3 * o) 0) a o) (z : k ≡ 0) (e : Effect) (e-is : e ≡ act-effect a o v)
-          (n : State) (calls' f' b' : List ℕ) (ps' : List Processor) (xs' : List Mutex) (n-is : n ≡ with-applied (up-to 65535 (s .applied)) s)
-          (calls-is : calls' ≡ choose (eqb a 0) calls (noted calls (r .current)))
-          (f-is : f' ≡ carried-firsts f (e .transfer)) (b-is : b' ≡ carried-threads f b p (e .transfer)) (ps-is : ps' ≡ set ps p (e .proc))
-          (xs-is : xs' ≡ set xs m (e .mutex)) where
+  abbrev xs : List Mutex
+  xs = here .mutexes
+
+  abbrev g : Running start j first i s calls f b ps xs
+  g = here .running
+
+  abbrev r : Processor
+  r = here .processor
+
+  abbrev m : ℕ
+  m = here .target
+
+  abbrev v : View
+  v = here .view
+
+  abbrev p : ℕ
+  p = getD j (3 * i) 0
+
+  abbrev a : ℕ
+  a = getD j (3 * i + 1) 0
+
+  abbrev o : ℕ
+  o = getD j (3 * i + 2) 0
+
+  -- the record that it is made on
+  abbrev whole : State
+  whole = record-of start j first i s calls f b ps xs g
+
+  target-is : m ≡ at whole p a o
+  target-is = here .target-is ∙ ap (λ (q : Processor). target-of a (q .mutex) o) (here .processor-is)
+
+  sees : v ≡ view-of whole p (at whole p a o)
+  sees =
+      here .view-is ∙ seen-view whole p m b r (here .mutex) (g .bytes) (here .processor-is) (here .mutex-is) ∙ ap (view-of whole p) target-is
+
+  -- refused by k, whatever the cause
+  stopped : (k : ℕ) → k ≡ refusal-of whole p a o → (k ≡ 0 → ⊥) → (ran k i whole ≡ run-of start j) × (calls ≡ counted-of start j first)
+  stopped k e z = (
+    ap (λ (n : ℕ). ran n i whole) e ∙ sym (run-stop j (length j / 3) i whole (here .more) (λ q. z (e ∙ q))) ∙ g .left,
+    sym (counted-stop j (length j / 3) i whole (here .more) calls (λ q. z (e ∙ q))) ∙ g .uncounted,
+  )
+
+  module _ (k : ℕ) (k-is : k ≡ cause-seen (here .sizes) v (getD b (3 * o) 0) a o) where
+    caused : k ≡ cause-of whole p a o
+    caused =
+        k-is ∙
+        ap (λ (q : Sizes). cause-seen q v (getD b (3 * o) 0) a o) (here .sizes-is) ∙
+        ap (λ (q : View). cause-seen (sizes-of s) q (getD b (3 * o) 0) a o) sees ∙
+        ap (λ (n : ℕ). cause-seen (sizes-of s) (view-of whole p (at whole p a o)) n a o)
+        (ap (λ (l : List ℕ). getD l (3 * o) 0) (g .bytes) ∙ bytes-status (g .threads) o) ∙
+        cause-is whole p a o
+
+    pub running-stop : (k ≡ 0 → ⊥) → (ran k i whole ≡ run-of start j) × (calls ≡ counted-of start j first)
+    running-stop z = stopped k (caused ∙ refused-is whole p a o (λ q. z (caused ∙ q))) z
+
+    module _ (z : k ≡ 0) (d : Outcome) (d-is : d ≡ act-outcome (s .t) a o v) where
+      tried : refusal-of whole p a o ≡ choose (d .broken) 15 0
+      tried =
+          tried-is whole p a o (sym caused ∙ z) ∙
+          ap (λ (q : Outcome). choose {A = ℕ} (q .broken) 15 0) (sym (d-is ∙ ap (act-outcome (s .t) a o) sees))
+
+      pub running-broken : d .broken ≡ true → (ran 15 i whole ≡ run-of start j) × (calls ≡ counted-of start j first)
+      running-broken t = stopped 15 (sym (tried ∙ rw t)) (λ q. omega arith)
+
+      effect-is : d .effect ≡ act-effect a o v
+      unfolding act-outcome
+      effect-is = ap (λ (q : Outcome). q .effect) d-is
+
+      -- a mutex that is not written is as it was
+      pub unwritten : d .writes ≡ false → xs ≡ set xs m (d .effect .mutex)
+      unwritten w =
+          sym (ap (set xs m) (ap (λ (q : Effect). q .mutex) effect-is ∙ keeps (s .t) a o v (sym (ap (λ (q : Outcome). q .writes) d-is) ∙ w) ∙ ap (λ (q : View). q .mutex) (here .view-is) ∙ here .mutex-is) ∙
+          set-getD xs m zero-mutex)
+
+      module _ (w : d .broken ≡ false) (n : State) (calls' f' b' : List ℕ) (ps' : List Processor) (xs' : List Mutex)
+          (n-is : n ≡ with-applied (up-to 65535 (s .applied)) s) (calls-is : calls' ≡ choose (eqb a 0) calls (noted calls (r .current)))
+          (f-is : f' ≡ carried-firsts f (d .effect .transfer)) (b-is : b' ≡ carried-threads f b p (d .effect .transfer))
+          (ps-is : ps' ≡ set ps p (d .effect .proc)) (xs-is : xs' ≡ set xs m (d .effect .mutex)) where
+        accepted : refusal-of whole p a o ≡ 0
+        accepted = tried ∙ rw w
+
         abbrev threads-after : Effect → List Thread
-        threads-after q = carried (record-of .chains) p (q .transfer) .threads
+        threads-after q = carried (whole .chains) p (q .transfer) .threads
 
         abbrev made : Effect → ℕ → State
-        made q w = gathered-of record-of (carried-firsts f (q .transfer)) (threads-after q) (set ps p (q .proc)) (set xs w (q .mutex)) (up-to 65535 (s .applied))
+        made q w = gathered-of whole (carried-firsts f (q .transfer)) (threads-after q) (set ps p (q .proc)) (set xs w (q .mutex)) (up-to 65535 (s .applied))
 
-        makes : made e m ≡ stepped-of record-of p a o
+        makes : made (d .effect) m ≡ stepped-of whole p a o
         makes =
-            ap (λ (q : Effect). made q m) (e-is ∙ ap (act-effect a o) sees) ∙
-            ap (made (act-effect a o (view-of record-of p (target-of a (processor-of record-of p .mutex) o)))) target-is ∙
-            stepped-is record-of p a o
+            ap (λ (q : Effect). made q m) (effect-is ∙ ap (act-effect a o) sees) ∙
+            ap (made (act-effect a o (view-of whole p (at whole p a o)))) target-is ∙
+            stepped-is whole p a o
 
-        gathers : gathered-of n f' (threads-after e) ps' xs' (n .applied) ≡ made e m
+        gathers : gathered-of n f' (threads-after (d .effect)) ps' xs' (n .applied) ≡ made (d .effect) m
         gathers = rw (n-is, f-is, ps-is, xs-is)
 
-        bytes-more : b' ≡ bytes-of (threads-after e)
-        bytes-more = b-is ∙ ap (λ (l : List ℕ). carried-threads f l p (e .transfer)) (g .bytes) ∙ carried-bytes (record-of .chains) p (e .transfer)
+        bytes-more : b' ≡ bytes-of (threads-after (d .effect))
+        bytes-more = b-is ∙ ap (λ (l : List ℕ). carried-threads f l p (d .effect .transfer)) (g .bytes) ∙ carried-bytes (whole .chains) p (d .effect .transfer)
 
-        notes : calls' ≡ noted-at record-of j i calls
-        notes = calls-is ∙ ap (λ (q : Processor). choose (eqb a 0) calls (noted calls (q .current))) r-is
+        notes : calls' ≡ noted-at whole j i calls
+        notes = calls-is ∙ ap (λ (q : Processor). choose (eqb a 0) calls (noted calls (q .current))) (here .processor-is)
 
         pub running-more : Running start j first (i + 1) n calls' f' b' ps' xs'
         running-more =
             record {
-              threads = threads-after e;
+              threads = threads-after (d .effect);
               bytes = bytes-more;
-              firsts-size = ap length f-is ∙ length-firsts f (e .transfer) ∙ g .firsts-size;
+              firsts-size = ap length f-is ∙ length-firsts f (d .effect .transfer) ∙ g .firsts-size;
               threads-size =
-                  omega (arith, ap length bytes-more, bytes-length (threads-after e), ap length b-is, length-threads b f p (e .transfer), bytes-size);
-              processors-size = ap length ps-is ∙ length-set ps p (e .proc) ∙ g .processors-size;
-              mutexes-size = ap length xs-is ∙ length-set xs m (e .mutex) ∙ g .mutexes-size;
+                  omega (arith, ap length bytes-more, bytes-length (threads-after (d .effect)), ap length b-is, length-threads b f p (d .effect .transfer), bytes-size start j first i s calls f b ps xs g);
+              processors-size = ap length ps-is ∙ length-set ps p (d .effect .proc) ∙ g .processors-size;
+              mutexes-size = ap length xs-is ∙ length-set xs m (d .effect .mutex) ∙ g .mutexes-size;
               left =
                   ap (run-from j (length j / 3 - (i + 1)) (i + 1)) (gathers ∙ makes) ∙
-                  sym (run-more j (length j / 3) i record-of h (sym (caused k k-is) ∙ z)) ∙
+                  sym (run-more j (length j / 3) i whole (here .more) accepted) ∙
                   g .left;
               uncounted =
                   ap (λ (q : State). counted-from j (length j / 3 - (i + 1)) (i + 1) q calls') (gathers ∙ makes) ∙
-                  ap (counted-from j (length j / 3 - (i + 1)) (i + 1) (stepped-of record-of p a o)) notes ∙
-                  sym (counted-more j (length j / 3) i record-of h calls (sym (caused k k-is) ∙ z)) ∙
+                  ap (counted-from j (length j / 3 - (i + 1)) (i + 1) (stepped-of whole p a o)) notes ∙
+                  sym (counted-more j (length j / 3) i whole (here .more) calls accepted) ∙
                   g .uncounted;
             }

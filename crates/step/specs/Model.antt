@@ -20,6 +20,7 @@ use Rattle.reference.specs.Lists.{choose, if-zero, in-range, around}
 use Rattle.reference.specs.State.{queues}
 use Rattle.step.specs.declared.View.{View}
 use Rattle.step.specs.declared.Effect.{Effect}
+use Rattle.step.specs.declared.Outcome.{Outcome}
 use Rattle.step.specs.declared.Moved.{Moved}
 use Rattle.step.specs.declared.Sizes.{Sizes}
 use Rattle.step.specs.declared.Run.{Run}
@@ -286,14 +287,30 @@ cause-of s p a o =
 abbrev pub nothing-there : Taken → Bool
 nothing-there q = on-taken q true (λ k rest. false)
 
--- the lines at which a step may break a rule
-abbrev pub may-break : ℕ → Bool
-may-break n = eqb n 15 || (eqb n 3 || eqb n 14) || eqb n 18 || eqb n 9
-
 abbrev pub breaks-at : ℕ → View → Bool
 breaks-at t v =
     eqb (v .proc .position) 15 && eqb (v .mutex .count) 0 || (eqb (v .proc .position) 3 || eqb (v .proc .position) 14) && ltb t (v .mutex .count) ||
     eqb (v .proc .position) 18 && leb 4000 (v .proc .sequence) || eqb (v .proc .position) 9 && nothing-there (v .queue)
+
+-- ---- what comes of a line or a call
+
+abbrev pub outcome : Bool → Bool → Effect → Outcome
+outcome broken writes e = record { broken = broken; writes = writes; effect = e }
+
+-- whether a line may change its mutex, by number: L1, L8, L9, TL1, GT3, TL3, U1, H2, H5 and H8 may
+abbrev pub writers : List Bool
+writers =
+    false ∷ false ∷ false ∷ true ∷ false ∷ false ∷ false ∷ false ∷ true ∷ true ∷ false ∷ true ∷ false ∷ true ∷ true ∷ true ∷ true ∷ false ∷ true ∷ false ∷ true ∷
+    false ∷ false ∷ false ∷ false ∷ []
+
+unfoldable pub line-outcome : ℕ → View → Outcome
+line-outcome t v = outcome (breaks-at t v) (getD writers (v .proc .position) false) (line-effect v)
+
+-- a call breaks no rule and leaves its mutex
+unfoldable pub act-outcome : ℕ → ℕ → ℕ → View → Outcome
+act-outcome t a o v =
+    let goes = not (in-range 1 6 a) in
+    outcome (goes && breaks-at t v) (goes && getD writers (v .proc .position) false) (act-effect a o v)
 
 -- ---- a whole move
 
@@ -337,11 +354,10 @@ moved-of s p a o = record { refusal = refusal-of s p a o; state = choose (eqb (r
 
 -- ---- moves one after another, in place
 
--- why a move is refused, by what it sees and by the status of the thread that its operand names
+-- why a move is refused before it is tried, by what it sees and by the status of the thread that its operand names
 unfoldable pub go-refusal : Sizes → View → ℕ → ℕ
 go-refusal z v o =
-    refuse (not (eqb o 0)) 3
-    (refuse (leb 4000 (z .applied)) 8 (refuse (eqb (v .proc .position) 0) 5 (refuse (breaks-at (z .t) v) 15 0)))
+    refuse (not (eqb o 0)) 3 (refuse (leb 4000 (z .applied)) 8 (refuse (eqb (v .proc .position) 0) 5 0))
 
 unfoldable pub call-refusal : Sizes → View → ℕ → ℕ → ℕ → ℕ
 call-refusal z v status a o =
@@ -350,8 +366,8 @@ call-refusal z v status a o =
     (refuse (not (eqb (v .proc .position) 0)) 4
     (refuse (eqb a 3 && not (eqb (v .mutex .owner) (v .proc .current))) 6 (refuse (eqb a 6 && not (eqb status 0)) 7 0))))
 
-unfoldable pub refusal-seen : Sizes → View → ℕ → ℕ → ℕ → ℕ
-refusal-seen z v status a o =
+unfoldable pub cause-seen : Sizes → View → ℕ → ℕ → ℕ → ℕ
+cause-seen z v status a o =
     refuse (not (in-range 1 (z .p) (v .number))) 2 (choose (eqb a 0) (go-refusal z v o) (call-refusal z v status a o))
 
 abbrev pub seen-of : List ℕ → List ℕ → ℕ → ℕ → ℕ → Processor → ℕ → Mutex → View

@@ -1,11 +1,13 @@
-// Why a move is refused, by what it sees: the first of 2, 3, 8, 4 or 5, 6, 7, 15 that is there, else 0.
+// Why a move is refused before it is tried, by what it sees: the first of 2, 3, 8, 4 or 5, 6, 7 that is there, else 0.
 ghost use mathlib.Core.Path.{_≡_};
+ghost use Prim.Native.Nat.{_*_};
+ghost use lib.ListN.{getD};
 ghost use Rattle.reference.specs.Lists.{in-range};
-ghost use Rattle.step.specs.Model.{operand-fits, go-refusal, call-refusal, refusal-seen};
+ghost use Rattle.step.specs.Model.{operand-fits, go-refusal, call-refusal, cause-seen};
 use crate::Sizes;
 use crate::View;
-use crate::breaks::breaks;
 use state::Position;
+use state::queues::status_in;
 
 pub(crate) fn in_range(lo: u8, hi: u8, n: u8) -> bool
     ensures { λ r. ⌜ r ≡ in-range lo hi n ⌝ }
@@ -32,7 +34,7 @@ pub(crate) fn sizes(p: u8, t: u8, m: u8, applied: u16) -> Sizes
     Sizes { p, t, m, applied }
 }
 
-// A go has operand 0; at App there is no line, and no line may break a rule.
+// A go has operand 0; at App there is no line.
 pub(crate) fn go_refusal(z: Sizes, v: View, operand: u8) -> u8
     ensures { λ r. ⌜ r ≡ go-refusal z v operand ⌝ }
 {
@@ -46,13 +48,12 @@ pub(crate) fn go_refusal(z: Sizes, v: View, operand: u8) -> u8
     if r.position == Position::APP {
         return 5;
     }
-    let there = breaks(z.t, v);
-    if there { 15 } else { 0 }
+    0
 }
 
-// A call is made at App only; unlock by the owner; create of a new thread, whose status is 0.
-pub(crate) fn call_refusal(z: Sizes, v: View, status: u8, action: u8, operand: u8) -> u8
-    ensures { λ r. ⌜ r ≡ call-refusal z v status action operand ⌝ }
+// A call is made at App only; unlock by the owner; create of a new thread, whose status is 0. Only a create reads a status.
+pub(crate) fn call_refusal(threads: &[u8], z: Sizes, v: View, action: u8, operand: u8) -> u8
+    ensures { λ r. ⌜ r ≡ call-refusal z v (getD (now (threads .entry)) (3 * operand) 0) action operand ⌝ }
 {
     let r = v.proc;
     let x = v.mutex;
@@ -69,15 +70,16 @@ pub(crate) fn call_refusal(z: Sizes, v: View, status: u8, action: u8, operand: u
     if (action == 3) & (x.owner != r.current) {
         return 6;
     }
-    if (action == 6) & (status != 0) {
-        return 7;
+    if action != 6 {
+        return 0;
     }
-    0
+    let status = status_in(threads, operand);
+    if status != 0 { 7 } else { 0 }
 }
 
-// Status is that of the thread which the operand names.
-pub(crate) fn cause(z: Sizes, v: View, status: u8, action: u8, operand: u8) -> u8
-    ensures { λ r. ⌜ r ≡ refusal-seen z v status action operand ⌝ }
+// The threads are bytes, and the operand names one of them.
+pub(crate) fn cause(threads: &[u8], z: Sizes, v: View, action: u8, operand: u8) -> u8
+    ensures { λ r. ⌜ r ≡ cause-seen z v (getD (now (threads .entry)) (3 * operand) 0) action operand ⌝ }
 {
     let there = in_range(1, z.p, v.number);
     if !there {
@@ -86,5 +88,5 @@ pub(crate) fn cause(z: Sizes, v: View, status: u8, action: u8, operand: u8) -> u
     if action == 0 {
         return go_refusal(z, v, operand);
     }
-    call_refusal(z, v, status, action, operand)
+    call_refusal(threads, z, v, action, operand)
 }

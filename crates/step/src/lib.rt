@@ -1,5 +1,4 @@
 // The machine's lines and calls as small functions, the causes for refusing a move, and one function for a whole move.
-pub mod breaks;
 pub mod call;
 pub mod calls;
 pub mod cause;
@@ -42,6 +41,13 @@ pub struct Effect {
     pub proc: Processor,
     pub mutex: Mutex,
     pub transfer: Transfer,
+}
+
+// What comes of a line or a call: whether it would break a rule, whether it may change its mutex, and its effect.
+pub struct Outcome {
+    pub broken: bool,
+    pub writes: bool,
+    pub effect: Effect,
 }
 
 // The statuses of a thread that is in no queue.

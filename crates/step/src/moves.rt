@@ -30,7 +30,6 @@ use state::queues::next_in;
 use state::queues::put;
 use state::queues::put_thread;
 use state::queues::ready_queues;
-use state::queues::status_in;
 use state::queues::threads_of;
 
 // The mutex that a move works on: that of a call on one, else the processor's.
@@ -90,10 +89,10 @@ pub(crate) fn look(
 ) -> View
     ensures { λ v. ⌜ v ≡ seen-of (now (firsts .entry)) (now (threads .entry)) stealing n p r m x ⌝ }
 {
-    let index = index_of(stealing, n, p, r);
     let queues = ready_queues(stealing, n);
     let waiting = get(firsts, m as usize);
     let after = next_in(threads, waiting);
+    let index = index_of(stealing, n, p, r);
     let first = get(firsts, index as usize);
     let next = next_in(threads, first);
     let queue = found(waiting, after);
@@ -192,21 +191,22 @@ pub fn run(mut s: State, moves: &[u8], calls: &mut [u16]) -> Run
         let x = mutex_by_fields(if j < 9 { mutexes[j] } else { free });
         let v = look(&firsts, &bytes, s.stealing, s.p, p, r, m, x);
         let z = sizes(s.p, s.t, s.m, s.applied);
-        let status = if action == 6 {
-            status_in(&bytes, operand)
-        } else {
-            0
-        };
-        let refusal = cause(z, v, status, action, operand);
+        let refusal = cause(&bytes, z, v, action, operand);
         if refusal != 0 {
             return ended(refusal, made, s, firsts, &bytes, processors, mutexes);
         }
+        let done = act(s.t, action, operand, v);
+        if done.broken {
+            return ended(15, made, s, firsts, &bytes, processors, mutexes);
+        }
         note_move(calls, action, r.current);
-        let e = act(action, operand, v);
+        let e = done.effect;
         let transfer = e.transfer;
         carry(&mut firsts, &mut bytes, p, transfer);
-        if j < 9 {
-            mutexes[j] = mutex_by_fields(e.mutex);
+        if done.writes {
+            if j < 9 {
+                mutexes[j] = mutex_by_fields(e.mutex);
+            }
         }
         if i < 9 {
             processors[i] = by_fields(e.proc);

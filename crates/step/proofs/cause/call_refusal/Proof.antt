@@ -47,25 +47,55 @@ returns-4 c =
 returns-5 : tie.Need-returns-5
 unfolding call-refusal
 returns-5 c =
+    let fourth = c .before in
+    let third = fourth .before .before .before in
+    let second = third .before .before in
+    let first = second .before .before in
     rw (
-      ← c .before .before .before .before .before .before .before .before .before .operand-fits .ensures,
-      c .before .before .before .before .before .before .before .before .if1 .left,
-      lt-leb _ _ (c .before .before .before .before .before .before .if2 .left),
-      eq-eqb _ _ (c .before .before .before .before .if3 .left),
-      c .before .if4 .left,
-      c .if5 .taken,
+      ← first .before .operand-fits .ensures,
+      first .if1 .left,
+      lt-leb _ _ (second .if2 .left),
+      eq-eqb _ _ (third .if3 .left),
+      fourth .if4 .left,
+      ne-eqb _ _ (c .if5 .taken),
     )
 
 returns-6 : tie.Need-returns-6
 unfolding call-refusal
 returns-6 c =
+    let fifth = c .before .before in
+    let fourth = fifth .before in
+    let third = fourth .before .before .before in
+    let second = third .before .before in
+    let first = second .before .before in
     rw (
-      ← c .before .before .before .before .before .before .before .before .before .operand-fits .ensures,
-      c .before .before .before .before .before .before .before .before .if1 .left,
-      lt-leb _ _ (c .before .before .before .before .before .before .if2 .left),
-      eq-eqb _ _ (c .before .before .before .before .if3 .left),
-      c .before .if4 .left,
-      c .if5 .left,
+      ← first .before .operand-fits .ensures,
+      first .if1 .left,
+      lt-leb _ _ (second .if2 .left),
+      eq-eqb _ _ (third .if3 .left),
+      fourth .if4 .left,
+      eq-eqb _ _ (fifth .if5 .left),
+      ← c .before .status-in .ensures,
+      ne-eqb _ _ (c .if6 .taken),
+    )
+
+returns-7 : tie.Need-returns-7
+unfolding call-refusal
+returns-7 c =
+    let fifth = c .before .before in
+    let fourth = fifth .before in
+    let third = fourth .before .before .before in
+    let second = third .before .before in
+    let first = second .before .before in
+    rw (
+      ← first .before .operand-fits .ensures,
+      first .if1 .left,
+      lt-leb _ _ (second .if2 .left),
+      eq-eqb _ _ (third .if3 .left),
+      fourth .if4 .left,
+      eq-eqb _ _ (fifth .if5 .left),
+      ← c .before .status-in .ensures,
+      eq-eqb _ _ (c .if6 .left),
     )
 
 pub call-refusal-spec : {M : Type 1} → statement M
@@ -78,4 +108,6 @@ call-refusal-spec =
     returns-3
     returns-4
     returns-5
-    returns-6)
+    (λ c κs. search needs)
+    returns-6
+    returns-7)

@@ -1,13 +1,13 @@
 -- `step::cause::cause` meets its contract.
 -- Assumes nothing.
 use borrow.Author.Tests.{eq-eqb, ne-eqb}
-use Rattle.step.specs.Model.{refusal-seen}
+use Rattle.step.specs.Model.{cause-seen}
 use borrow.Author.Needs.{needs}
 use Rattle.step.proofs.cause.cause.Statement.{statement}
 use Rattle.step.proofs.cause.cause.Tie as tie
 
 returns : tie.Need-returns
-unfolding refusal-seen
+unfolding cause-seen
 returns c =
     rw (
       ← c .before .in-range .ensures,
@@ -15,7 +15,7 @@ returns c =
     )
 
 returns-2 : tie.Need-returns-2
-unfolding refusal-seen
+unfolding cause-seen
 returns-2 c =
     rw (
       ← c .before .before .before .in-range .ensures,
@@ -25,7 +25,7 @@ returns-2 c =
     )
 
 returns-3 : tie.Need-returns-3
-unfolding refusal-seen
+unfolding cause-seen
 returns-3 c =
     rw (
       ← c .before .before .before .in-range .ensures,

@@ -2,7 +2,6 @@
 -- Assumes nothing.
 use borrow.Author.Tests.{eq-eqb, ne-eqb, le-leb, lt-leb}
 use Rattle.step.specs.Model.{go-refusal}
-use borrow.Author.Needs.{needs}
 use Rattle.step.proofs.cause.go_refusal.Statement.{statement}
 use Rattle.step.proofs.cause.go_refusal.Tie as tie
 
@@ -31,31 +30,10 @@ returns-4 : tie.Need-returns-4
 unfolding go-refusal
 returns-4 c =
     rw (
-      eq-eqb _ _ (c .before .before .before .before .before .before .if1 .left),
-      lt-leb _ _ (c .before .before .before .before .if2 .left),
-      ne-eqb _ _ (c .before .before .if3 .left),
-      ← c .before .breaks .ensures,
-      c .if4 .taken,
-    )
-
-returns-5 : tie.Need-returns-5
-unfolding go-refusal
-returns-5 c =
-    rw (
-      eq-eqb _ _ (c .before .before .before .before .before .before .if1 .left),
-      lt-leb _ _ (c .before .before .before .before .if2 .left),
-      ne-eqb _ _ (c .before .before .if3 .left),
-      ← c .before .breaks .ensures,
-      c .if4 .left,
+      eq-eqb _ _ (c .before .before .before .before .if1 .left),
+      lt-leb _ _ (c .before .before .if2 .left),
+      ne-eqb _ _ (c .if3 .left),
     )
 
 pub go-refusal-spec : {M : Type 1} → statement M
-go-refusal-spec =
-    tie.close
-    (tie.spec
-    returns
-    returns-2
-    returns-3
-    (λ c κs. search needs)
-    returns-4
-    returns-5)
+go-refusal-spec = tie.close (tie.spec returns returns-2 returns-3 returns-4)

@@ -11,10 +11,10 @@ returns c =
       c .before .found .ensures,
       c .before .before .next-in2 .ensures,
       c .before .before .before .get2 .ensures,
-      c .before .before .before .before .next-in .ensures,
-      c .before .before .before .before .before .get .ensures,
-      c .before .before .before .before .before .before .ready-queues .ensures,
-      c .before .before .before .before .before .before .before .index-of .ensures,
+      c .before .before .before .before .index-of .ensures,
+      c .before .before .before .before .before .next-in .ensures,
+      c .before .before .before .before .before .before .get .ensures,
+      c .before .before .before .before .before .before .before .ready-queues .ensures,
     )
 
 pub look-spec : {M : Type 1} → statement M

@@ -1,26 +1,24 @@
 -- `step::moves::run` meets its contract: the loop's invariant says that the parts are those of the record after the moves made.
 -- Assumes nothing.
-use Prim.Native.Nat.{ℕ, _+_, _≤_, _<_, _-_, _*_, _/_}
+use Prim.Native.Nat.{ℕ, _≤_, _-_, _*_, _/_}
 use mathlib.Core.Logic.{_⊎_, inl, inr}
 use mathlib.Core.List.{List}
 use mathlib.Core.Path.{_≡_, ap, _∙_}
 use native.Mathlib.Omega.{arith}
 use lib.ListN.{length, getD, set}
 use borrow.Author.Needs.{needs}
-use lib.Dec.{eqb}
-use borrow.Author.Tests.{eq-eqb, ne-eqb}
-use Rattle.reference.specs.Lists.{choose, tabulate}
+use Rattle.reference.specs.Lists.{tabulate}
 use Rattle.state.specs.declared.Thread.{Thread}
 use Rattle.state.specs.declared.Processor.{Processor}
 use Rattle.state.specs.declared.Mutex.{Mutex}
 use Rattle.state.specs.declared.State.{State}
-use Rattle.state.specs.Record.{zero-processor, zero-mutex, processor-in, mutex-in}
+use Rattle.state.specs.Record.{zero-processor, zero-mutex}
 use Rattle.state.specs.Model.{thread-from, bytes-of}
 use Rattle.state.proofs.Bytes.{threads-back}
 use Rattle.state.proofs.Past.{read-past, write-past}
 use Rattle.state.proofs.Sized.{sized}
-use Rattle.step.specs.Model.{gathered-of, ran, sizes-of, refusal-seen}
-use Rattle.step.proofs.InPlace.{Running, running-start, running-stop, running-more, running-end, status-only, bytes-size, calls-size}
+use Rattle.step.specs.Model.{gathered-of, ran}
+use Rattle.step.proofs.InPlace.{Running, Reading, running-start, running-stop, running-broken, unwritten, running-more, running-end, bytes-size, calls-size}
 use Rattle.step.proofs.moves.run.Statement.{statement}
 use Rattle.step.proofs.moves.run.Tie as tie
 
@@ -48,110 +46,114 @@ loop-holds c =
     let b = c .before .before .before .before .bytes-of in
     (omega arith, running-start (t .args .s) (t .args .moves .now) (t .args .calls .now) (b .result) (sized (t .good .0)) (b .ensures))
 
+-- a stage of the code, by a need that stands at it
+abbrev stage : {A : Type 0} {B : A → Type 0} → ((a : A) → B a) → Type 0
+stage {A} f = A
+
+cause-ready : tie.Need-cause-requires Inv-loop μ-loop
+cause-ready c κs = search needs
+
+-- before the cause is asked for: the move, as it was read
+abbrev read : (c : stage cause-ready) →
+    let t = c .before .before .before .before .before .before .before .before .before .before .before .before .before .before .before .before .before .before .before .before .before .before .before .before .before in
+    Reading (t .args .s) (t .args .moves .now) (t .args .calls .now)
+read c =
+    let look = c .before .before in
+    let mutex = look .before .before .before in
+    let target = mutex .before .before in
+    let proc = target .before in
+    let test = proc .before .before .before .before .before in
+    let zero = test .before .before in
+    let t = zero .before .before .before .before .before .before .before .before .before .before in
+    let l = test .before .loop in
+    let g = l .inv .1 in
+    let p = getD (t .args .moves .now) (3 * l .made) 0 in
+    let m = target .target .result in
+    record {
+      made = l .made;
+      state = l .s;
+      calls = l .calls;
+      firsts = l .firsts;
+      bytes = l .bytes;
+      processors = l .processors;
+      mutexes = l .mutexes;
+      running = g;
+      more = omega (arith, test .loop-test .taken);
+      processor = proc .by-fields .result;
+      target = m;
+      mutex = mutex .mutex-by-fields .result;
+      view = look .look .result;
+      processor-is =
+          proc .by-fields .ensures ∙
+          either (λ w. w .2) (λ w. w .1 ∙ zero .before .zero .ensures ∙ read-past (l .processors) 9 p (g .processors-size) (w .0 .left) zero-processor)
+          (proc .before .if1 .came);
+      target-is = target .target .ensures;
+      mutex-is =
+          mutex .mutex-by-fields .ensures ∙
+          either (λ w. w .2) (λ w. w .1 ∙ zero .zero2 .ensures ∙ read-past (l .mutexes) 9 m (g .mutexes-size) (w .0 .left) zero-mutex)
+          (mutex .before .if2 .came);
+      view-is = look .look .ensures;
+      sizes = c .before .sizes .result;
+      sizes-is = c .before .sizes .ensures;
+    }
+
+-- the record that the end gathers
+gathered : {start : State} {j first : List ℕ} (here : Reading start j first) →
+    gathered-of (here .state) (here .firsts) (tabulate (thread-from (here .bytes)) 0 33) (here .processors) (here .mutexes) (here .state .applied) ≡
+    gathered-of (here .state) (here .firsts) (here .running .threads) (here .processors) (here .mutexes) (here .state .applied)
+gathered here =
+    back (here .state) (here .firsts) (here .bytes) (here .processors) (here .mutexes) (here .running .threads) (here .running .bytes) (here .running .threads-size)
+
 returns : tie.Need-returns Inv-loop μ-loop
 returns c =
     let cause = c .before .before .before in
-    let look = cause .before .before .before in
-    let mutex = look .before .before .before in
-    let target = mutex .before .before in
-    let proc = target .before in
-    let test = proc .before .before .before .before .before in
-    let zero = test .before .before in
-    let t = zero .before .before .before .before .before .before .before .before .before .before in
-    let l = test .before .loop in
-    let g = l .inv .1 in
-    let j = t .args .moves .now in
-    let p = getD j (3 * l .made) 0 in
-    let a = getD j (3 * l .made + 1) 0 in
-    let o = getD j (3 * l .made + 2) 0 in
-    let m = target .target .result in
-    let h : l .made < length j / 3 = omega (arith, test .loop-test .taken) in
-    let r : proc .by-fields .result ≡ processor-in (l .processors) p =
-    proc .by-fields .ensures ∙
-    either (λ w. w .2) (λ w. w .1 ∙ zero .before .zero .ensures ∙ read-past (l .processors) 9 p (g .processors-size) (w .0 .left) zero-processor)
-    (proc .before .if1 .came)
-    in
-    let x : mutex .mutex-by-fields .result ≡ mutex-in (l .mutexes) m =
-    mutex .mutex-by-fields .ensures ∙
-    either (λ w. w .2) (λ w. w .1 ∙ zero .zero2 .ensures ∙ read-past (l .mutexes) 9 m (g .mutexes-size) (w .0 .left) zero-mutex)
-    (mutex .before .if2 .came)
-    in
-    let status : cause .before .if3 .status ≡ choose (eqb a 6) (getD (l .bytes) (3 * o) 0) 0 =
-    either (λ w. rw (eq-eqb a 6 (w .0 .taken)) (w .3 ∙ w .2 .ensures)) (λ w. rw (ne-eqb a 6 (w .0 .left)) (w .1)) (cause .before .if3 .came)
-    in
-    let q : cause .cause .result ≡ refusal-seen (sizes-of (l .s)) (look .look .result) (getD (l .bytes) (3 * o) 0) a o =
-    cause .cause .ensures ∙ rw (cause .before .before .sizes .ensures, status) (status-only _ _ _ a o)
-    in
-    let stop = running-stop (t .args .s) j (t .args .calls .now) (l .made) (l .s) (l .calls) (l .firsts) (l .bytes) (l .processors) (l .mutexes) g h
-    (proc .by-fields .result) m (mutex .mutex-by-fields .result) (look .look .result) r (target .target .ensures) x (look .look .ensures) (cause .cause .result) q (c .before .before .if4 .taken)
-    in (
-      c .ended .ensures ∙
-          ap (ran (cause .cause .result) (l .made)) (back (l .s) (l .firsts) (l .bytes) (l .processors) (l .mutexes) (g .threads) (g .bytes) (g .threads-size)) ∙
-          stop .0,
-      stop .1,
-    )
-
-loop-again : tie.Need-loop-again Inv-loop μ-loop
-loop-again c =
-    let refused = c .before .before .before .before .before .before .before .before .before .before .before .before .before in
-    let cause = refused .before in
-    let look = cause .before .before .before in
-    let mutex = look .before .before .before in
-    let target = mutex .before .before in
-    let proc = target .before in
-    let test = proc .before .before .before .before .before in
-    let zero = test .before .before in
-    let t = zero .before .before .before .before .before .before .before .before .before .before in
-    let l = test .before .loop in
-    let g = l .inv .1 in
-    let j = t .args .moves .now in
-    let p = getD j (3 * l .made) 0 in
-    let a = getD j (3 * l .made + 1) 0 in
-    let o = getD j (3 * l .made + 2) 0 in
-    let m = target .target .result in
-    let h : l .made < length j / 3 = omega (arith, test .loop-test .taken) in
-    let r : proc .by-fields .result ≡ processor-in (l .processors) p =
-    proc .by-fields .ensures ∙
-    either (λ w. w .2) (λ w. w .1 ∙ zero .before .zero .ensures ∙ read-past (l .processors) 9 p (g .processors-size) (w .0 .left) zero-processor)
-    (proc .before .if1 .came)
-    in
-    let x : mutex .mutex-by-fields .result ≡ mutex-in (l .mutexes) m =
-    mutex .mutex-by-fields .ensures ∙
-    either (λ w. w .2) (λ w. w .1 ∙ zero .zero2 .ensures ∙ read-past (l .mutexes) 9 m (g .mutexes-size) (w .0 .left) zero-mutex)
-    (mutex .before .if2 .came)
-    in
-    let status : cause .before .if3 .status ≡ choose (eqb a 6) (getD (l .bytes) (3 * o) 0) 0 =
-    either (λ w. rw (eq-eqb a 6 (w .0 .taken)) (w .3 ∙ w .2 .ensures)) (λ w. rw (ne-eqb a 6 (w .0 .left)) (w .1)) (cause .before .if3 .came)
-    in
-    let q : cause .cause .result ≡ refusal-seen (sizes-of (l .s)) (look .look .result) (getD (l .bytes) (3 * o) 0) a o =
-    cause .cause .ensures ∙ rw (cause .before .before .sizes .ensures, status) (status-only _ _ _ a o)
-    in
-    let e = c .before .before .before .before .before .before .before .before .act in
-    let noting = c .before .before .before .before .before .before .before .before .before .before .before .note-move in
-    let carried = c .before .before .before .before .before .carry in
-    let xs : c .before .before .if5 .mutexes ≡ set (l .mutexes) m (e .result .mutex) =
-    either (λ w. w .3 ∙ ap (set (l .mutexes) m) (w .2 .ensures))
-    (λ w. w .1 ∙ write-past (l .mutexes) 9 m (g .mutexes-size) (w .0 .left) (e .result .mutex)) (c .before .before .if5 .came)
-    in
-    let ps : c .before .if6 .processors ≡ set (l .processors) p (e .result .proc) =
-    either (λ w. w .3 ∙ ap (set (l .processors) p) (w .2 .ensures))
-    (λ w. w .1 ∙ write-past (l .processors) 9 p (g .processors-size) (w .0 .left) (e .result .proc)) (c .before .if6 .came)
-    in (
-      omega (arith, test .loop-test .taken),
-      running-more (t .args .s) j (t .args .calls .now) (l .made) (l .s) (l .calls) (l .firsts) (l .bytes) (l .processors) (l .mutexes) g h
-          (proc .by-fields .result) m (mutex .mutex-by-fields .result) (look .look .result) r (target .target .ensures) x (look .look .ensures) (cause .cause .result) q
-          (refused .if4 .left) (e .result) (e .ensures) _ (noting .last .0) (carried .last .0) (carried .last .1 .0)
-          (c .before .if6 .processors) (c .before .before .if5 .mutexes) (rw (c .up-wide .ensures)) (noting .ensures) (carried .ensures .0) (carried .ensures .1) ps xs,
-    )
+    let here = read (cause .before) in
+    let stop = running-stop here (cause .cause .result) (cause .cause .ensures) (c .before .before .if3 .taken) in
+    (c .ended .ensures ∙ ap (ran (cause .cause .result) (here .made)) (gathered here) ∙ stop .0, stop .1)
 
 returns-2 : tie.Need-returns-2 Inv-loop μ-loop
 returns-2 c =
+    let act = c .before .before .before in
+    let cause = act .before .before in
+    let here = read (cause .before) in
+    let stop = running-broken here (cause .cause .result) (cause .cause .ensures) (act .before .if3 .left) (act .act .result) (act .act .ensures) (c .before .before .if4 .taken) in
+    (c .ended2 .ensures ∙ ap (ran 15 (here .made)) (gathered here) ∙ stop .0, stop .1)
+
+loop-again : tie.Need-loop-again Inv-loop μ-loop
+loop-again c =
+    let carried = c .before .before .before .before .before .carry in
+    let noting = c .before .before .before .before .before .before .before .before .before .before .before .note-move in
+    let whole = c .before .before .before .before .before .before .before .before .before .before .before .before .before in
+    let act = whole .before in
+    let cause = act .before .before in
+    let here = read (cause .before) in
+    let e = act .act .result .effect in
+    let p = getD (c .before .before .before .before .before .before .before .before .before .before .before .before .before .before .before .before .before .before .before .before .before .before .before .before .before .before .before .before .before .before .before .before .before .before .before .before .before .before .before .before .before .before .args .moves .now) (3 * here .made) 0 in
+    let ps : c .before .if7 .processors ≡ set (here .processors) p (e .proc) =
+    either (λ w. w .3 ∙ ap (set (here .processors) p) (w .2 .ensures))
+    (λ w. w .1 ∙ write-past (here .processors) 9 p (here .running .processors-size) (w .0 .left) (e .proc)) (c .before .if7 .came)
+    in
+    let same = unwritten here (cause .cause .result) (cause .cause .ensures) (act .before .if3 .left) (act .act .result) (act .act .ensures) in
+    let xs : c .before .before .if5 .mutexes ≡ set (here .mutexes) (here .target) (e .mutex) =
+    either (λ w. w .4 ∙ ap (set (here .mutexes) (here .target)) (w .3 .ensures))
+    (either (λ w. w .2 ∙ write-past (here .mutexes) 9 (here .target) (here .running .mutexes-size) (w .1 .left) (e .mutex)) (λ w. w .1 ∙ same (w .0 .left)))
+    (c .before .before .if5 .came)
+    in
+    let at = running-more here (cause .cause .result) (cause .cause .ensures) (act .before .if3 .left) (act .act .result) (act .act .ensures)
+    in (
+      omega (arith, here .more),
+      at (whole .if4 .left) _ (noting .last .0) (carried .last .0) (carried .last .1 .0) (c .before .if7 .processors) (c .before .before .if5 .mutexes)
+          (rw (c .up-wide .ensures)) (noting .ensures) (carried .ensures .0) (carried .ensures .1) ps xs,
+    )
+
+returns-3 : tie.Need-returns-3 Inv-loop μ-loop
+returns-3 c =
     let t = c .before .before .before .before .before .before .before .before .before .before .before .before .before .before in
     let l = c .before .before .before .loop in
     let g = l .inv .1 in
     let end = running-end (t .args .s) (t .args .moves .now) (t .args .calls .now) (l .made) (l .s) (l .calls) (l .firsts) (l .bytes) (l .processors) (l .mutexes) g (omega arith)
     in (
-      c .ended2 .ensures ∙
+      c .ended3 .ensures ∙
           ap (ran 0 (l .made)) (back (l .s) (l .firsts) (l .bytes) (l .processors) (l .mutexes) (g .threads) (g .bytes) (g .threads-size)) ∙
           end .0,
       end .1,
@@ -186,17 +188,20 @@ run-spec =
     (λ c. omega (arith, bytes-size _ _ _ _ _ _ _ _ _ _ (c .before .before .before .before .before .before .before .before .before .before .before .loop .inv .1)))
     (λ c κs. search needs)
     (λ c κs. search needs)
-    (λ c. omega (arith, bytes-size _ _ _ _ _ _ _ _ _ _ (c .before .before .before .before .before .before .before .before .before .before .before .before .before .before .before .loop .inv .1)))
-    (λ c κs. search needs)
-    (λ c κs. search needs)
+    (λ c. omega (arith, bytes-size _ _ _ _ _ _ _ _ _ _ (c .before .before .before .before .before .before .before .before .before .before .before .before .before .before .loop .inv .1)))
+    cause-ready
     (λ c. omega (arith, bytes-size _ _ _ _ _ _ _ _ _ _ (c .before .before .before .before .before .before .before .before .before .before .before .before .before .before .before .before .before .loop .inv .1)))
     (λ c κs. search needs)
     (λ c. calls-size _ _ _ _ _ _ _ _ _ _ (c .before .before .before .before .before .before .before .before .before .before .before .before .before .before .before .before .before .before .loop .inv .1))
     returns
     (λ c κs. search needs)
+    (λ c. omega (arith, bytes-size _ _ _ _ _ _ _ _ _ _ (c .before .before .before .before .before .before .before .before .before .before .before .before .before .before .before .before .before .before .before .loop .inv .1)))
     (λ c κs. search needs)
-    (λ c. omega (arith, c .before .before .before .before .before .before .before .before .before .before .before .before .before .before .before .before .before .before .before .before .before .before .loop .inv .1 .firsts-size))
-    (λ c. omega (arith, bytes-size _ _ _ _ _ _ _ _ _ _ (c .before .before .before .before .before .before .before .before .before .before .before .before .before .before .before .before .before .before .before .before .before .before .before .loop .inv .1)))
+    (λ c. calls-size _ _ _ _ _ _ _ _ _ _ (c .before .before .before .before .before .before .before .before .before .before .before .before .before .before .before .before .before .before .before .before .loop .inv .1))
+    returns-2
+    (λ c κs. search needs)
+    (λ c. omega (arith, c .before .before .before .before .before .before .before .before .before .before .before .before .before .before .before .before .before .before .before .before .before .before .before .before .loop .inv .1 .firsts-size))
+    (λ c. omega (arith, bytes-size _ _ _ _ _ _ _ _ _ _ (c .before .before .before .before .before .before .before .before .before .before .before .before .before .before .before .before .before .before .before .before .before .before .before .before .before .loop .inv .1)))
     (λ c κs. search needs)
     (λ c κs. search needs)
     (λ c. search needs)
@@ -205,10 +210,10 @@ run-spec =
     (λ c. search needs)
     (λ c. search needs)
     (λ c κs. search needs)
-    (λ c. let l = c .before .before .before .before .before .before .before .before .before .before .before .before .before .before .before .before .before .before .before .before .before .before .before .before .before .before .before .before in omega (arith, l .loop-test .taken, l .before .before .before .before .before .before .before .before .before .before .before .before .good .1 .0))
-    (λ c. let l = c .before .before .before .before .before .before .before .before .before .before .before .before .before .before .before .before .before .before .before .before .before .before .before .before .before .before .before .before in omega (arith, l .loop-test .taken))
+    (λ c. let l = c .before .before .before .before .before .before .before .before .before .before .before .before .before .before .before .before .before .before .before .before .before .before .before .before .before .before .before .before .before .before in omega (arith, l .loop-test .taken, l .before .before .before .before .before .before .before .before .before .before .before .before .good .1 .0))
+    (λ c. let l = c .before .before .before .before .before .before .before .before .before .before .before .before .before .before .before .before .before .before .before .before .before .before .before .before .before .before .before .before .before .before in omega (arith, l .loop-test .taken))
     loop-again
     (λ c. omega (arith, bytes-size _ _ _ _ _ _ _ _ _ _ (c .before .before .loop .inv .1)))
     (λ c κs. search needs)
     (λ c. calls-size _ _ _ _ _ _ _ _ _ _ (c .before .before .before .loop .inv .1))
-    returns-2)
+    returns-3)
