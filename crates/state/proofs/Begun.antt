@@ -1,7 +1,7 @@
--- The steps of the start's models: a thread's place on a ring, a queue's first, a thread of the start state.
+-- The steps of the start's models: a processor, a thread's place on a ring, a queue's first, a thread of the start state.
 -- Assumes nothing.
 use Prim.Native.Nat.{ℕ, suc, _+_, _-_, _%_, _≤_, _<_}
-use mathlib.Core.Bool.{Bool, true, false}
+use mathlib.Core.Bool.{Bool, true, false, _&&_, not}
 use mathlib.Core.Path.{_≡_, refl, ap, sym, _∙_}
 use native.Mathlib.Nat.{mod-zero, zero-mod}
 use native.Mathlib.Decide.{decLe}
@@ -10,10 +10,46 @@ use lib.Dec.{leb}
 use borrow.Author.Tests.{eq-eqb, ne-eqb, le-leb, lt-leb}
 use Rattle.reference.specs.Lists.{around, choose, in-range}
 use Rattle.reference.specs.State.{queues}
+use Rattle.state.specs.declared.Processor.{Processor}
 use Rattle.state.specs.Record.{zero-thread}
 use Rattle.state.specs.Association.{ready-index, queued-as}
-use Rattle.state.specs.Model.{first-index, first-thread, first-first}
+use Rattle.state.specs.Model.{standing-at, first-processor, first-index, first-thread, first-first}
 use Rattle.state.proofs.Branch.{if-none, if-some}
+
+-- ---- a processor
+
+module _ (p b i : ℕ) where
+  pub position-first : choose (in-range 1 p i && not (leb i b)) 1 0 ≡ first-processor p b i .position
+  unfolding first-processor
+  position-first = by (in-range 1 p i) (leb i b)
+    where
+      by : (t l : Bool) → choose {A = ℕ} (t && not l) 1 0 ≡ choose {A = Processor} t (choose l (standing-at 0 i) (standing-at 1 0)) (standing-at 0 0) .position
+      by true true = refl
+      by true false = refl
+      by false l = refl
+
+  pub current-first : choose (in-range 1 p i && leb i b) i 0 ≡ first-processor p b i .current
+  unfolding first-processor
+  current-first = by (in-range 1 p i) (leb i b)
+    where
+      by : (t l : Bool) → choose {A = ℕ} (t && l) i 0 ≡ choose {A = Processor} t (choose l (standing-at 0 i) (standing-at 1 0)) (standing-at 0 0) .current
+      by true true = refl
+      by true false = refl
+      by false l = refl
+
+  -- all else is zero
+  pub processor-first : standing-at (first-processor p b i .position) (first-processor p b i .current) ≡ first-processor p b i
+  unfolding first-processor
+  processor-first = by (in-range 1 p i) (leb i b)
+    where
+      by : (t l : Bool) →
+          let x : Processor = choose t (choose l (standing-at 0 i) (standing-at 1 0)) (standing-at 0 0) in
+          standing-at (x .position) (x .current) ≡ x
+      by true true = refl
+      by true false = refl
+      by false l = refl
+
+-- ---- a sum
 
 -- n is at most b or not, said by a sum that fits
 pub sum-fits : (b k n : ℕ) → n ≤ b → k ≤ b - n → k + n ≡ choose (leb (k + n) b) (k + n) 0

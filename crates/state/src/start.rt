@@ -4,7 +4,7 @@ ghost use Prim.Native.Nat.{_+_};
 ghost use lib.Dec.{leb};
 ghost use Rattle.reference.specs.Lists.{choose, around, tabulate};
 ghost use Rattle.state.specs.Record.{zero-state};
-ghost use Rattle.state.specs.Model.{standing-at, first-processor, first-index, first-thread, first-first, start-record};
+ghost use Rattle.state.specs.Model.{first-processor, first-index, first-thread, first-first, start-record};
 use crate::Chains;
 use crate::Mutex;
 use crate::Position;
@@ -60,46 +60,46 @@ impl State {
     }
 }
 
-// A processor with thread k, or with none where k is 0, and all else zero.
-fn standing_at(position: u8, k: u8) -> Processor
-    ensures { λ r. ⌜ r ≡ standing-at position k ⌝ }
-{
-    Processor {
-        position,
-        current: k,
-        transit: 0,
-        mutex: 0,
-        observed: Token {
-            processor: 0,
-            sequence: 0,
-        },
-        sequence: 0,
-        answer: 0,
-        probe: 0,
-    }
-}
-
-fn first_processor(p: u8, b: u8, i: u8) -> Processor
-    ensures { λ r. ⌜ r ≡ first-processor p b i ⌝ }
+// With p processors and b created threads, processor i starts with thread i, or idle where that is not created.
+fn first_position(p: u8, b: u8, i: u8) -> u8
+    ensures { λ r. ⌜ r ≡ first-processor p b i .position ⌝ }
 {
     let there = (1 <= i) & (i <= p);
-    if there {
-        if i <= b {
-            return standing_at(Position::APP, i);
-        }
-        return standing_at(Position::CI2, 0);
-    }
-    standing_at(0, 0)
+    let idle = there & !(i <= b);
+    if idle { Position::CI2 } else { Position::APP }
 }
 
+fn first_current(p: u8, b: u8, i: u8) -> u8
+    ensures { λ r. ⌜ r ≡ first-processor p b i .current ⌝ }
+{
+    let there = (1 <= i) & (i <= p);
+    let loaded = there & (i <= b);
+    if loaded { i } else { 0 }
+}
+
+// Each processor is made where it is stored: one that a function answers is copied in pieces, which takes three times as long.
 fn first_processors(p: u8, b: u8) -> [Processor; 9]
     ensures { λ r. ⌜ r ≡ tabulate (first-processor p b) 0 9 ⌝ }
 {
-    let mut processors = [standing_at(0, 0); 9];
+    let mut processors = [Processor::zero(); 9];
     let mut i: u8 = 0;
     while i < 9 {
         let at = i as usize;
-        processors[at] = first_processor(p, b, i);
+        let position = first_position(p, b, i);
+        let current = first_current(p, b, i);
+        processors[at] = Processor {
+            position,
+            current,
+            transit: 0,
+            mutex: 0,
+            observed: Token {
+                processor: 0,
+                sequence: 0,
+            },
+            sequence: 0,
+            answer: 0,
+            probe: 0,
+        };
         i += 1;
     }
     processors

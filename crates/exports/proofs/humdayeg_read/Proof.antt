@@ -1,3 +1,5 @@
+-- `exports::humdayeg_read` meets its contract.
+-- Assumes nothing.
 use borrow.Author.Needs.{needs}
 use Rattle.exports.proofs.Ahead.{read-number}
 use Rattle.exports.proofs.humdayeg_read.Statement.{statement}

@@ -1,3 +1,5 @@
+-- `exports::humdayeg_replay_with` meets its contract.
+-- Assumes nothing.
 use mathlib.Core.Path.{sym, _∙_}
 use borrow.Author.Needs.{needs}
 use Rattle.session.specs.Contract.{table}

@@ -1,3 +1,5 @@
+-- `session::before_last` meets its contract.
+-- Assumes nothing.
 use native.Mathlib.Omega.{arith}
 use borrow.Author.Needs.{needs}
 use Rattle.state.proofs.Sized.{session-sized}

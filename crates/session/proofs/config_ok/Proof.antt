@@ -1,3 +1,5 @@
+-- `session::config_ok` meets its contract.
+-- Assumes nothing.
 use borrow.Author.Needs.{needs}
 use Rattle.session.proofs.config_ok.Statement.{statement}
 use Rattle.session.proofs.config_ok.Tie as tie

@@ -1,3 +1,5 @@
+-- `session::lent` meets its contract.
+-- Assumes nothing.
 use mathlib.Core.Path.{sym, _∙_}
 use borrow.Author.Needs.{needs}
 use Rattle.session.proofs.Answers.{lent-short, lent-ok, lent-bad}

@@ -1,3 +1,5 @@
+-- `session::make_move` meets its contract.
+-- Assumes nothing.
 use mathlib.Core.Path.{sym, _∙_}
 use borrow.Author.Needs.{needs}
 use Rattle.state.proofs.Sized.{session-sized}

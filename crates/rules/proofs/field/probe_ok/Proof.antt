@@ -1,4 +1,4 @@
--- `rules::field::look_ok` meets its contract: at CI2, and elsewhere.
+-- `rules::field::probe_ok` meets its contract: at CI2, and elsewhere.
 -- Assumes nothing.
 use Rattle.rules.proofs.Firsts.{probe-none, probe-some, probe-away}
 use Rattle.rules.proofs.field.probe_ok.Statement.{statement}

@@ -1,4 +1,4 @@
--- `snapshot::turns::before` meets its contract.
+-- `snapshot::waiting::before` meets its contract.
 -- Assumes nothing.
 use borrow.Author.Needs.{needs}
 use mathlib.Core.Path.{_≡_}

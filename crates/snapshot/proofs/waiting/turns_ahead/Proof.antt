@@ -1,4 +1,4 @@
--- `snapshot::turns::turns_ahead` meets its contract.
+-- `snapshot::waiting::turns_ahead` meets its contract.
 -- Assumes nothing.
 use native.Mathlib.Omega.{arith}
 use Rattle.state.specs.Record.{thread-of}

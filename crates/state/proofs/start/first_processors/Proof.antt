@@ -1,4 +1,5 @@
 -- `state::start::first_processors` meets its contract.
+-- Assumes nothing.
 use Prim.Native.Nat.{_≤_, _-_}
 use mathlib.Core.Path.{_≡_}
 use native.Mathlib.Omega.{arith}
@@ -6,6 +7,7 @@ use lib.ListN.{length, take, length-set}
 use borrow.Author.Needs.{needs}
 use Rattle.reference.specs.Lists.{tabulate}
 use Rattle.state.specs.Model.{first-processor}
+use Rattle.state.proofs.Begun.{processor-first}
 use Rattle.state.proofs.Fill.{fill-none, fill-more, fill-all}
 use Rattle.state.proofs.start.first_processors.Statement.{statement}
 use Rattle.state.proofs.start.first_processors.Tie as tie
@@ -21,8 +23,13 @@ loop-holds c = (omega arith, search needs, fill-none (first-processor (c .before
 
 loop-again : tie.Need-loop-again Inv-loop μ-loop
 loop-again c =
-    let k = c .before .before .loop in
-    (omega arith, simp length-set (k .inv .1), rw (c .first-processor .ensures) (fill-more _ (k .processors) (k .i) (omega arith) (k .inv .2)))
+    let k = c .before .before .before .loop in
+    let a = c .before .before .before .before .before .args in (
+      omega arith,
+      simp length-set (k .inv .1),
+      rw (c .first-current .ensures, c .before .first-position .ensures, processor-first (a .p) (a .b) (k .i))
+          (fill-more _ (k .processors) (k .i) (omega arith) (k .inv .2)),
+    )
 
 returns : tie.Need-returns Inv-loop μ-loop
 returns c =
@@ -39,6 +46,7 @@ first-processors-spec =
     (λ c κs. search needs)
     loop-holds
     (λ c. search needs)
+    (λ c κs. search needs)
     (λ c κs. search needs)
     (λ c. search needs)
     (λ c. search needs)

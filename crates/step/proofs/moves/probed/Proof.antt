@@ -1,4 +1,4 @@
--- `step::moves::looks_on` meets its contract.
+-- `step::moves::probed` meets its contract.
 -- Assumes nothing.
 use borrow.Author.Tests.{eq-eqb, ne-eqb}
 use Rattle.step.proofs.moves.probed.Statement.{statement}

@@ -1,4 +1,4 @@
--- `step::registers::next_look` meets its contract.
+-- `step::registers::next_probe` meets its contract.
 -- Assumes nothing.
 use borrow.Author.Tests.{lt-ltb, le-ltb}
 use borrow.Author.Needs.{needs}
