@@ -1,7 +1,7 @@
 -- Where a thread is: in a state that holds each thread once each thread has exactly one spot, and its entry in the picture follows from it.
 -- Assumes nothing.
-use Prim.Native.Nat.{ℕ, zero, suc, _+_, _-_, _≤_}
-use mathlib.Core.Bool.{Bool, not}
+use Prim.Native.Nat.{ℕ, zero, suc, _+_, _≤_}
+use mathlib.Core.Bool.{Bool, true, false, not}
 use mathlib.Core.List.{[], _∷_}
 use mathlib.Core.Path.{_≡_, refl, ap, sym, _∙_}
 use native.Mathlib.Nat.{not-suc-le-zero}
@@ -10,7 +10,7 @@ use native.Mathlib.Decide.{ℕ-discrete, decLe}
 use lib.Dec.{eqb, leb}
 use lib.ListN.{length, getD}
 use borrow.Author.Tests.{eq-eqb, ne-eqb, le-leb, lt-leb}
-use Rattle.reference.specs.Lists.{find, sum, is, occurrences, if-zero}
+use Rattle.reference.specs.Lists.{choose, in-range, find, sum, is, occurrences, if-zero}
 use Rattle.reference.specs.State as reference
 use Rattle.reference.specs.State.{Life, live, same-life, nobody, free-mutex, processor-at, mutex-at, life-at}
 use Rattle.reference.specs.Safe.{In, one-if, held}
@@ -19,8 +19,7 @@ use Rattle.reference.proofs.Sums.{is-same, is-other, sum-at, sum-some}
 use Rattle.state.specs.declared.Thread.{Thread}
 use Rattle.state.specs.Allowed.{Allowed}
 use Rattle.state.specs.Association.{queue-at, ready-index, queued-as}
-use Rattle.state.proofs.Branch.{if-some}
-use Rattle.state.proofs.Numbers.{queue-mutex, queue-ready, by-number, ready-as, mutex-as}
+use Rattle.state.proofs.Numbers.{queue-mutex, queue-ready, by-number, ready-as, mutex-as, number-of, number-back}
 use Rattle.association.proofs.Tables.{find-none, find-one, sum-plus}
 
 -- in one of the record's queues, in a register, or in none
@@ -241,17 +240,11 @@ spot-by n h = getD (new ∷ queued (if-zero h 0 (8 + h)) ∷ queued h ∷ curren
 
 spot-queued : (q : ℕ) → spot-by (queued-as q 0 .status) (queued-as q 0 .holder) ≡ queued q
 unfolding spot-by
-spot-queued q =
-    elim (ℕ-discrete q 0) [
-      | yes z ↦ rw z
-      | no z ↦
-          elim (decLe q 8) [
-            | yes l ↦ rw (le-leb 1 q (omega arith), le-leb q 8 l)
-            | no l ↦
-                let o : 8 + (q - 8) ≡ q = omega arith in
-                rw (le-leb 1 q (omega arith), lt-leb q 8 (omega arith)) (ap queued (if-some (q - 8) 0 (8 + (q - 8)) (omega arith) ∙ o))
-          ]
-    ]
+spot-queued q = by (in-range 1 8 q) (queued-as q 0 .holder) ∙ ap queued (number-back q 0)
+  where
+    by : (b : Bool) (h : ℕ) → spot-by (choose b 2 1) h ≡ queued (number-of (choose b 2 1) h)
+    by true h = refl
+    by false h = refl
 
 spot-back : (s : reference.State) (k : ℕ) (x : Spot) → spot-by (entry-for s k x .status) (entry-for s k x .holder) ≡ x
 unfolding spot-by

@@ -11,7 +11,7 @@ use borrow.Author.Tests.{eqb-true, eq-eqb, ne-eqb, leb-true, le-leb, lt-leb, ltb
 use Rattle.reference.specs.Lists.{choose, if-zero, in-range, each}
 use Rattle.reference.specs.State.{App, lines, line-of, probes}
 use Rattle.reference.proofs.Tests.{true-range}
-use Rattle.state.specs.Rules.{probe-ok, is-queue-of, first-ok}
+use Rattle.state.specs.Rules.{probe-ok, is-queue, first-ok}
 use Rattle.state.proofs.Branch.{if-none, if-some}
 use Rattle.reference.proofs.Each.{each-at}
 use Rattle.rules.proofs.Past.{read-past}
@@ -54,17 +54,17 @@ module _ (n position probe : ℕ) where
 -- ---- a queue's first
 
 module _ (p t m stealing q first : ℕ) where
-  there : is-queue-of p m stealing q ≡ true → leb first t ≡ first-ok p t m stealing q first
+  there : is-queue p m stealing q ≡ true → leb first t ≡ first-ok p t m stealing q first
   there e = sym (ap (λ (b : Bool). leb first (choose b t 0)) e)
 
-  absent : is-queue-of p m stealing q ≡ false → eqb first 0 ≡ first-ok p t m stealing q first
+  absent : is-queue p m stealing q ≡ false → eqb first 0 ≡ first-ok p t m stealing q first
   absent e = zero-test first ∙ sym (ap (λ (b : Bool). leb first (choose b t 0)) e)
 
   pub first-waits : in-range 1 m q ≡ true → leb first t ≡ first-ok p t m stealing q first
   first-waits e = there (rw e)
 
   module _ (no : in-range 1 m q ≡ false) where
-    ready : (b : Bool) → if-zero stealing (eqb q 0) (in-range 9 (8 + p) q) ≡ b → is-queue-of p m stealing q ≡ b
+    ready : (b : Bool) → if-zero stealing (eqb q 0) (in-range 9 (8 + p) q) ≡ b → is-queue p m stealing q ≡ b
     ready b e = rw no e
 
     pub first-single : stealing ≡ 0 → q ≡ 0 → leb first t ≡ first-ok p t m stealing q first

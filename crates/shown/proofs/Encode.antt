@@ -113,12 +113,12 @@ module _ (r : State) (f : Facts r) where
   stealing-is = refl
 
   -- a queue that is not there
-  empty-shown : (q : ℕ) → q ≤ 16 → is-queue r q ≡ false → queue-shown r q ≡ []
+  empty-shown : (q : ℕ) → q ≤ 16 → is-queue (r .p) (r .m) (r .stealing) q ≡ false → queue-shown r q ≡ []
   unfolding chain
   empty-shown q l e = rw (f .no-first q l e)
 
   -- a ready queue that is there is one of its kind, and any other is not there
-  not-there : (q : ℕ) → (1 ≤ q → q ≤ r .m → ⊥) → if-zero (r .stealing) (eqb q 0) (in-range 9 (8 + r .p) q) ≡ false → is-queue r q ≡ false
+  not-there : (q : ℕ) → (1 ≤ q → q ≤ r .m → ⊥) → if-zero (r .stealing) (eqb q 0) (in-range 9 (8 + r .p) q) ≡ false → is-queue (r .p) (r .m) (r .stealing) q ≡ false
   not-there q h e = rw (out-of-range 1 (r .m) q h) e
 
   queue-is : (q : ℕ) → q ≤ 16 → queue-at (decode r) q ≡ queue-shown r q

@@ -59,7 +59,7 @@ pub record Fields (r : State) : Type 0 where
   pub m-range : In 8 (r .m)
   pub stealing : r .stealing ≤ 1
   pub applied : r .applied ≤ 4000
-  pub first : (q : ℕ) → q ≤ 16 → first-of r q ≤ choose (is-queue r q) (r .t) 0
+  pub first : (q : ℕ) → q ≤ 16 → first-of r q ≤ choose (is-queue (r .p) (r .m) (r .stealing) q) (r .t) 0
   pub processor : (p : ℕ) → In (r .p) p → processor-ok (r .p) (r .t) (r .m) (queues (r .stealing) (r .p)) (processor-of r p) ≡ true
   pub mutex : (m : ℕ) → In (r .m) m → mutex-ok (r .p) (r .t) (mutex-of r m) ≡ true
   pub thread : (k : ℕ) → In (r .t) k → thread-ok (r .p) (r .t) (r .m) (r .stealing) (thread-of r k) ≡ true
@@ -69,7 +69,7 @@ unfolding fields-ok
 fields-say r e =
     let f = (
     (range-true 1 8 (r .p) and range-true 1 32 (r .t) and range-true 1 8 (r .m)) and leb-true (r .stealing) 1 and leb-true (r .applied) 4000 and
-    each-all (λ q. leb (first-of r q) (choose (is-queue r q) (r .t) 0)) 0 17 and
+    each-all (λ q. leb (first-of r q) (choose (is-queue (r .p) (r .m) (r .stealing) q) (r .t) 0)) 0 17 and
     each-all (λ p. processor-ok (r .p) (r .t) (r .m) (queues (r .stealing) (r .p)) (processor-of r p)) 1 (r .p) and
     each-all (λ m. mutex-ok (r .p) (r .t) (mutex-of r m)) 1 (r .m) and
     each-all (λ k. thread-ok (r .p) (r .t) (r .m) (r .stealing) (thread-of r k)) 1 (r .t)
@@ -80,7 +80,7 @@ fields-say r e =
       m-range = f .0 .0 .0 .0 .0 .0 .1;
       stealing = f .0 .0 .0 .0 .0 .1;
       applied = f .0 .0 .0 .0 .1;
-      first = λ q l. leb-true (first-of r q) (choose (is-queue r q) (r .t) 0) (f .0 .0 .0 .1 q (omega arith) (omega arith));
+      first = λ q l. leb-true (first-of r q) (choose (is-queue (r .p) (r .m) (r .stealing) q) (r .t) 0) (f .0 .0 .0 .1 q (omega arith) (omega arith));
       processor = λ p i. f .0 .0 .1 p (i .0) (omega (arith, i .1));
       mutex = λ m i. f .0 .1 m (i .0) (omega (arith, i .1));
       thread = λ k i. f .1 k (i .0) (omega (arith, i .1));
@@ -98,7 +98,7 @@ say-fields r f =
     (both (both (true-range 1 8 (r .p) (f .p-range .0) (f .p-range .1)) (true-range 1 32 (r .t) (f .t-range .0) (f .t-range .1))) (true-range 1 8 (r .m) (f .m-range .0) (f .m-range .1)))
     (le-leb (r .stealing) 1 (f .stealing)))
     (le-leb (r .applied) 4000 (f .applied)))
-    (all-each (λ q. leb (first-of r q) (choose (is-queue r q) (r .t) 0)) 0 17 (λ q a b. le-leb (first-of r q) (choose (is-queue r q) (r .t) 0) (f .first q (omega arith)))))
+    (all-each (λ q. leb (first-of r q) (choose (is-queue (r .p) (r .m) (r .stealing) q) (r .t) 0)) 0 17 (λ q a b. le-leb (first-of r q) (choose (is-queue (r .p) (r .m) (r .stealing) q) (r .t) 0) (f .first q (omega arith)))))
     (all-each (λ p. processor-ok (r .p) (r .t) (r .m) (queues (r .stealing) (r .p)) (processor-of r p)) 1 (r .p) (λ p a b. f .processor p (omega arith))))
     (all-each (λ m. mutex-ok (r .p) (r .t) (mutex-of r m)) 1 (r .m) (λ m a b. f .mutex m (omega arith))))
     (all-each (λ k. thread-ok (r .p) (r .t) (r .m) (r .stealing) (thread-of r k)) 1 (r .t) (λ k a b. f .thread k (omega arith)))
@@ -199,7 +199,7 @@ pub record Facts (r : State) : Type 0 where
   -- zero where there is none
   pub no-processor : (p : ℕ) → in-range 1 (r .p) p ≡ false → processor-of r p ≡ zero-processor
   pub no-mutex : (m : ℕ) → in-range 1 (r .m) m ≡ false → mutex-of r m ≡ zero-mutex
-  pub no-first : (q : ℕ) → q ≤ 16 → is-queue r q ≡ false → first-of r q ≡ 0
+  pub no-first : (q : ℕ) → q ≤ 16 → is-queue (r .p) (r .m) (r .stealing) q ≡ false → first-of r q ≡ 0
   pub no-thread : (k : ℕ) → in-range 1 (r .t) k ≡ false → thread-of r k ≡ zero-thread
 
 -- a thread that is placed in a queue is one of the threads: the others are zero

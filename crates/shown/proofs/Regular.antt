@@ -270,7 +270,7 @@ module _ (s : reference.State) (g : Regular s) where
       (token-fits (s .P) (token-record (x .token)) (z .token) (z .token-low) (z .token-high)))
 
   -- the first of a queue that is there is a thread, and of one that is not there is none
-  first-fits : (q : ℕ) → q ≤ 16 → first-of (encode s) q ≤ choose (is-queue (encode s) q) (s .T) 0
+  first-fits : (q : ℕ) → q ≤ 16 → first-of (encode s) q ≤ choose (is-queue (encode s .p) (encode s .m) (encode s .stealing) q) (s .T) 0
   unfolding encode
   first-fits q l =
       rw (read-first s regular-fits q)

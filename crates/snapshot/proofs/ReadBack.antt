@@ -14,7 +14,7 @@ use Rattle.state.specs.declared.Processor.{Processor}
 use Rattle.state.specs.declared.Mutex.{Mutex}
 use Rattle.state.specs.declared.State.{State}
 use Rattle.state.specs.Record.{zero-thread, zero-processor, zero-mutex, thread-of, processor-of, mutex-of, first-of}
-use Rattle.state.specs.Rules.{is-queue-of}
+use Rattle.state.specs.Rules.{is-queue}
 use Rattle.state.proofs.Sized.{Sized}
 use Rattle.reference.proofs.Each.{each-all}
 use Rattle.reference.specs.Lists.{if-zero, tabulate, in-range, each}
@@ -65,11 +65,11 @@ module _ {A : Type 0} (f : ℕ → List ℕ) (w : ℕ) (wide : (i : ℕ) → len
       go false e = rw e (past e)
 
 -- a queue of a mutex, or of a processor, that is not there
-not-mutex : (p m stealing q : ℕ) → 1 ≤ q → q ≤ 8 → in-range 1 m q ≡ false → is-queue-of p m stealing q ≡ false
+not-mutex : (p m stealing q : ℕ) → 1 ≤ q → q ≤ 8 → in-range 1 m q ≡ false → is-queue p m stealing q ≡ false
 not-mutex p m zero q a b e = rw (e, ne-eqb q 0 (omega arith))
 not-mutex p m (suc c) q a b e = rw (e, lt-leb 9 q (omega arith))
 
-not-own : (p m stealing i : ℕ) → 1 ≤ i → m ≤ 8 → in-range 1 p i ≡ false → is-queue-of p m stealing (8 + i) ≡ false
+not-own : (p m stealing i : ℕ) → 1 ≤ i → m ≤ 8 → in-range 1 p i ≡ false → is-queue p m stealing (8 + i) ≡ false
 not-own p m stealing i a b e = rw (le-leb 1 (8 + i) (omega arith), lt-leb (8 + i) m (omega arith)) (by stealing)
   where
     past : p < i

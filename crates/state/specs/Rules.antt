@@ -70,15 +70,12 @@ unfoldable pub thread-ok : ℕ → ℕ → ℕ → ℕ → Thread → Bool
 thread-ok p t m stealing x = leb (x .status) 5 && holder-ok p m stealing x && next-ok t x
 
 -- queue q is there: the single ready queue or those of the processors, and those of the mutexes
-abbrev pub is-queue-of : ℕ → ℕ → ℕ → ℕ → Bool
-is-queue-of p m stealing q = in-range 1 m q || if-zero stealing (eqb q 0) (in-range 9 (8 + p) q)
-
-abbrev pub is-queue : State → ℕ → Bool
-is-queue r q = is-queue-of (r .p) (r .m) (r .stealing) q
+abbrev pub is-queue : ℕ → ℕ → ℕ → ℕ → Bool
+is-queue p m stealing q = in-range 1 m q || if-zero stealing (eqb q 0) (in-range 9 (8 + p) q)
 
 -- its first is a thread or none, and one that is not there has none
 abbrev pub first-ok : ℕ → ℕ → ℕ → ℕ → ℕ → ℕ → Bool
-first-ok p t m stealing q first = leb first (choose (is-queue-of p m stealing q) t 0)
+first-ok p t m stealing q first = leb first (choose (is-queue p m stealing q) t 0)
 
 unfoldable pub fields-ok : State → Bool
 fields-ok r =

@@ -65,7 +65,7 @@ pub struct Token {
     pub sequence: u16,
 }
 
-// current: the loaded thread; transit: the hand; observed: the seen token; sequence: its own rank; look: the look number, at CI2.
+// current: the loaded thread; transit: the hand; observed: the seen token; sequence: its own rank; probe: the look number, at CI2.
 pub struct Processor {
     pub position: u8,
     pub current: u8,

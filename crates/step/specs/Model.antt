@@ -359,12 +359,15 @@ unfoldable pub go-refusal : Sizes → View → ℕ → ℕ
 go-refusal z v o =
     refuse (not (eqb o 0)) 3 (refuse (leb 4000 (z .applied)) 8 (refuse (eqb (v .proc .position) 0) 5 0))
 
+abbrev pub create-refusal : ℕ → ℕ → ℕ
+create-refusal status a = refuse (eqb a 6 && not (eqb status 0)) 7 0
+
 unfoldable pub call-refusal : Sizes → View → ℕ → ℕ → ℕ → ℕ
 call-refusal z v status a o =
     refuse (not (leb a 6 && operand-fits z a o)) 3
     (refuse (leb 4000 (z .applied)) 8
     (refuse (not (eqb (v .proc .position) 0)) 4
-    (refuse (eqb a 3 && not (eqb (v .mutex .owner) (v .proc .current))) 6 (refuse (eqb a 6 && not (eqb status 0)) 7 0))))
+    (refuse (eqb a 3 && not (eqb (v .mutex .owner) (v .proc .current))) 6 (create-refusal status a))))
 
 unfoldable pub cause-seen : Sizes → View → ℕ → ℕ → ℕ → ℕ
 cause-seen z v status a o =

@@ -3,7 +3,7 @@ ghost use mathlib.Core.Path.{_≡_};
 ghost use Prim.Native.Nat.{_*_};
 ghost use lib.ListN.{getD};
 ghost use Rattle.reference.specs.Lists.{in-range};
-ghost use Rattle.step.specs.Model.{operand-fits, go-refusal, call-refusal, cause-seen};
+ghost use Rattle.step.specs.Model.{operand-fits, go-refusal, create-refusal, call-refusal, cause-seen};
 use crate::Sizes;
 use crate::View;
 use state::Position;
@@ -51,7 +51,18 @@ pub(crate) fn go_refusal(z: Sizes, v: View, operand: u8) -> u8
     0
 }
 
-// A call is made at App only; unlock by the owner; create of a new thread, whose status is 0. Only a create reads a status.
+// A create is of a new thread, whose status is 0. Only a create reads a status.
+pub(crate) fn create_refusal(threads: &[u8], action: u8, operand: u8) -> u8
+    ensures { λ r. ⌜ r ≡ create-refusal (getD (now (threads .entry)) (3 * operand) 0) action ⌝ }
+{
+    if action != 6 {
+        return 0;
+    }
+    let status = status_in(threads, operand);
+    if status != 0 { 7 } else { 0 }
+}
+
+// A call is made at App only; unlock by the owner.
 pub(crate) fn call_refusal(threads: &[u8], z: Sizes, v: View, action: u8, operand: u8) -> u8
     ensures { λ r. ⌜ r ≡ call-refusal z v (getD (now (threads .entry)) (3 * operand) 0) action operand ⌝ }
 {
@@ -70,11 +81,7 @@ pub(crate) fn call_refusal(threads: &[u8], z: Sizes, v: View, action: u8, operan
     if (action == 3) & (x.owner != r.current) {
         return 6;
     }
-    if action != 6 {
-        return 0;
-    }
-    let status = status_in(threads, operand);
-    if status != 0 { 7 } else { 0 }
+    create_refusal(threads, action, operand)
 }
 
 // The threads are bytes, and the operand names one of them.

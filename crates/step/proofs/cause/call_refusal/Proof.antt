@@ -57,45 +57,7 @@ returns-5 c =
       lt-leb _ _ (second .if2 .left),
       eq-eqb _ _ (third .if3 .left),
       fourth .if4 .left,
-      ne-eqb _ _ (c .if5 .taken),
-    )
-
-returns-6 : tie.Need-returns-6
-unfolding call-refusal
-returns-6 c =
-    let fifth = c .before .before in
-    let fourth = fifth .before in
-    let third = fourth .before .before .before in
-    let second = third .before .before in
-    let first = second .before .before in
-    rw (
-      ← first .before .operand-fits .ensures,
-      first .if1 .left,
-      lt-leb _ _ (second .if2 .left),
-      eq-eqb _ _ (third .if3 .left),
-      fourth .if4 .left,
-      eq-eqb _ _ (fifth .if5 .left),
-      ← c .before .status-in .ensures,
-      ne-eqb _ _ (c .if6 .taken),
-    )
-
-returns-7 : tie.Need-returns-7
-unfolding call-refusal
-returns-7 c =
-    let fifth = c .before .before in
-    let fourth = fifth .before in
-    let third = fourth .before .before .before in
-    let second = third .before .before in
-    let first = second .before .before in
-    rw (
-      ← first .before .operand-fits .ensures,
-      first .if1 .left,
-      lt-leb _ _ (second .if2 .left),
-      eq-eqb _ _ (third .if3 .left),
-      fourth .if4 .left,
-      eq-eqb _ _ (fifth .if5 .left),
-      ← c .before .status-in .ensures,
-      eq-eqb _ _ (c .if6 .left),
+      c .create-refusal .ensures,
     )
 
 pub call-refusal-spec : {M : Type 1} → statement M
@@ -107,7 +69,5 @@ call-refusal-spec =
     returns-2
     returns-3
     returns-4
-    returns-5
     (λ c κs. search needs)
-    returns-6
-    returns-7)
+    returns-5)
