@@ -5,8 +5,8 @@
  * The functions keep no state, allocate nothing and call nothing; calls on different
  * memory may run at the same time.
  *
- * Numbers. 0 is no refusal; those that refuse are the scope's and that of scripted threads,
- * named below. No call and no turn of a class is refused by another.
+ * Numbers. 0 is no refusal; those that refuse are named below, and docs/MACHINE.md has them all
+ * with their order. No call and no turn of a class is refused by another.
  *
  * Memory. A pointer and the length after it stand for the bytes of a slice. No pointer is
  * NULL, not even where its length is 0. What is written may not overlap what is read, nor what
@@ -29,13 +29,13 @@ enum {
     HUMDAYEG_CALL_AWAY = 4,     /* call elsewhere than at App */
     HUMDAYEG_GO_AT_APP = 5,     /* go at App */
     HUMDAYEG_NOT_OWNER = 6,     /* unlock by a thread that is not the owner */
-    HUMDAYEG_NOT_NEW = 7,       /* create of a thread that is not unborn */
-    HUMDAYEG_FULL = 8,          /* 4,000 moves stand already */
+    HUMDAYEG_NOT_NEW = 7,       /* create of a thread that is not new */
+    HUMDAYEG_FULL = 8,          /* 4,000 moves are applied already */
     HUMDAYEG_TOO_SHORT = 10,    /* buffer shorter than what is to be written */
     HUMDAYEG_BAD_LENGTH = 11,   /* length not exactly the picture's */
     HUMDAYEG_BAD_FIELD = 12,    /* a field, register or zero-byte rule */
     HUMDAYEG_BAD_CHAIN = 13,    /* a chain meets a thread twice, a wrong one, or misses one */
-    HUMDAYEG_BAD_HOLDER = 14,   /* loaded and hand fields disagree with places 3 and 4 */
+    HUMDAYEG_BAD_HOLDER = 14,   /* current and transit fields against statuses 3 and 4 */
     HUMDAYEG_BAD_SCRIPT = 19    /* scripts too short, over 6 calls, or an action outside 1 to 6 */
 };
 
@@ -54,7 +54,7 @@ enum {
 /*
  * Byte 7 of a picture is the table's fifth number: 0 with a single ready queue, 1 with one for
  * each processor. Where it is 1, byte 3 is 0 and
- *     byte 5 of a processor's record is its look number: how many places after its own queue,
+ *     byte 5 of a processor's record is its probe: how many places after its own queue,
  *            going round, the one is that it tries next at CI2; elsewhere 0
  *     byte 11 of a processor's record is the first of its own ready chain
  *     byte 1 of a ready thread's record is the processor whose queue it is in
@@ -65,7 +65,7 @@ enum {
  * Replays moves from a start table and writes the picture of the state that they lead to.
  *
  * p, t, m, b: the start table: processors 1 to 8, threads 1 to 32, mutexes 1 to 8, threads
- *     born at first 1 to t.
+ *     created at first 1 to t.
  * moves: moves_len bytes, three for each move: processor, action, operand.
  * picture: picture_len bytes; HUMDAYEG_PICTURE_BYTES(p, t, m) are enough, and
  *     HUMDAYEG_MOST_PICTURE_BYTES always are. Bytes after the picture keep their values.
@@ -107,14 +107,14 @@ uint8_t humdayeg_replay_with(uint8_t p, uint8_t t, uint8_t m, uint8_t b, uint8_t
  *     script says how many calls it has, 0 to 6; bytes 2i + 1 and 2i + 2 are the action (1 to 6)
  *     and the operand of its call i, counted from 0. No other byte is looked at.
  * turns: turns_len bytes, each the processor that has a turn. At App it makes the next call of
- *     its loaded thread, or exit once it has made all; elsewhere it goes. A thread's next
+ *     its current thread, or exit once it has made all; elsewhere it goes. A thread's next
  *     call is the one after those that it has made.
  * answers: answers_len bytes, turns_len or more: answers[i] becomes the number of turns[i]:
  *     0        accepted
  *     2        no such processor
  *     3        the call's operand does not fit; operands are looked at in the turn only
  *     8        4,000 turns were accepted already
- *     6, 7     unlock by a thread that is not the owner, create of one that is not unborn
+ *     6, 7     unlock by a thread that is not the owner, create of one that is not new
  *     the first that is there. A refused turn changes nothing, so the call is next again.
  * pictures: pictures_len bytes, turns_len pictures of HUMDAYEG_PICTURE_BYTES(p, t, m) or more,
  *     one behind the other: the picture after each turn, accepted or not.

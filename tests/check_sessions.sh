@@ -1,6 +1,6 @@
 #!/bin/sh
 # Runs the line program on every session of a folder and compares what it writes, byte for byte.
-# Runs it on each again through pipes, a line at a time: each answer must come before the next line is sent (talk.py).
+# Runs it on each again through pipes, a line at a time: each answer must come before the next line is sent (line_by_line.py).
 #   check_sessions.sh PROGRAM VECTORS      e.g. target/bin/stepper tests/vectors
 # Last line: 'N passed, M failed'. Exit status 0 if none failed, 1 if some did, 2 if there is nothing to run.
 if [ $# -ne 2 ] || [ ! -x "$1" ] || [ ! -d "$2" ]; then
@@ -25,16 +25,16 @@ count() { # STATUS NAME
     fi
 }
 
-talking=yes
+by_line=yes
 for in in "$vectors"/*.in; do
     [ -f "$in" ] || continue
     want=${in%.in}.out
     timeout 60 "$program" <"$in" >"$out" && cmp -s "$out" "$want"
     same=$?
     count $same "$in"
-    if [ $same -eq 0 ] && [ $talking = yes ]; then
-        python3 "$here/talk.py" "$program" "$in" "$want" || talking=no
-        [ $talking = yes ]
+    if [ $same -eq 0 ] && [ $by_line = yes ]; then
+        python3 "$here/line_by_line.py" "$program" "$in" "$want" || by_line=no
+        [ $by_line = yes ]
         count $? "$in, a line at a time (the rest is not tried so)"
     fi
 done

@@ -13,15 +13,15 @@ use Rattle.state.specs.declared.Processor as declared
 use Rattle.state.specs.Record.{thread-of, processor-of}
 use Rattle.state.specs.Association.{encode}
 use Rattle.step.specs.declared.View as code
-use Rattle.step.specs.Model.{index-of, cause-of, operand-right, refusal-here, nothing-there, breaks-at, step-breaks-of, view-of}
+use Rattle.step.specs.model.Moves.{index-of, sizes-of, facts-of, move-view, cause-seen, cause-of, nothing-there, breaks-at, step-breaks-of, view-of}
 use Rattle.reference.specs.Refusal.{refuse}
 use Rattle.reference.specs.Lists.{choose, in-range}
 use Rattle.reference.specs.State as reference
 use Rattle.reference.specs.State.{State, Processor, Line, L1, L9, TL3, U1, H5, Life, new, live, terminated, same-line, same-life, processor-at, mutex-at, life-at}
-use Rattle.reference.specs.Step.{Move, action-of, view, works-on}
-use Rattle.reference.specs.Cause.{operand-fits, is-go, refused-here, cause}
+use Rattle.reference.specs.Step.{Move, Action, action-of, view, works-on}
+use Rattle.reference.specs.Cause.{operand-fits, is-go, is-unlock, is-create, at-app, first-cause, cause}
 use Rattle.reference.specs.Break.{is-empty, line-breaks, step-breaks}
-use Rattle.reference.specs.Snapshot.{Entry, thread-entry}
+use Rattle.reference.specs.Picture.{Entry, thread-entry}
 use Rattle.reference.specs.Safe.{In}
 use Rattle.reference.proofs.Tests.{range-true}
 use Rattle.reference.proofs.Same.{same-line-exact}
@@ -29,7 +29,7 @@ use Rattle.reference.proofs.Legal.{legal}
 use Rattle.association.proofs.Spots.{Spot, AtSpot, entry-for, spot-entry, spot-of}
 use Rattle.association.proofs.Shown.{Fits, read-processor, read-mutex, read-entry, read-taken}
 use Rattle.shown.proofs.Regular.{Registers, Regular, regular-fits}
-use Rattle.state.specs.Model.{taken}
+use Rattle.state.specs.model.Access.{taken}
 use Rattle.state.proofs.Numbers.{queue-mutex, queue-ready}
 use Rattle.association.proofs.Transfers.{number, works-there}
 use Rattle.agreement.proofs.Index.{index-is}
@@ -70,29 +70,38 @@ module _ (s : State) (h : Fits s) where
       by live e = let x = spot-of s (h .placed) k i (h .m-most) in at-spot (x .0) (x .1) ∙ not-new (x .0) (x .1) e
       by terminated e = at-spot Spot.terminated e
 
-  operands : (o n : ℕ) → n ≤ 6 → operand-right (encode s) n o ≡ operand-fits s (action-of n) o
-  unfolding encode
-  operands o = by-action (λ n a. operand-right (encode s) n o ≡ operand-fits s a o) refl refl refl refl refl refl refl
+  -- the causes by the action's number: on the record, and in the state
+  abbrev Same : ℕ → ℕ → ℕ → Action → Type 0
+  Same p o n a =
+      first-cause (facts-of (in-range 1 (s .P) p) (eqb n 0) (sizes-of (encode s)) (move-view (encode s) p n o) (thread-of (encode s) o .status) n o) ≡
+      first-cause (record {
+        there = in-range 1 (s .P) p;
+        fits = leb n 6 && operand-fits s a o;
+        full = leb 4000 (s .applied);
+        goes = is-go a;
+        at-app = at-app s p;
+        unlocks = is-unlock a;
+        owner = eqb (mutex-at s o .owner) (processor-at s p .current);
+        creates = is-create a;
+        is-new = same-life (life-at s o) new;
+      })
 
-  refusals : (p o n : ℕ) → n ≤ 6 → operand-fits s (action-of n) o ≡ true → refusal-here (encode s) p n o ≡ refused-here s p (action-of n) o
-  refusals p o =
-      by-action (λ n a. operand-fits s a o ≡ true → refusal-here (encode s) p n o ≡ refused-here s p a o)
-      (λ f. rw (read-processor s h p)) (λ f. rw (read-processor s h p)) (λ f. rw (read-processor s h p)) (λ f. rw (read-processor s h p, read-mutex s h o))
-      (λ f. rw (read-processor s h p)) (λ f. rw (read-processor s h p)) (λ f. rw (read-processor s h p, new-status o (range-true 1 (s .T) o f)))
+  same : (p o n : ℕ) → n ≤ 6 → Same p o n (action-of n)
+  unfolding encode
+  same p o =
+      by-action (Same p o)
+      (rw (read-processor s h p)) (rw (read-processor s h p)) (rw (read-processor s h p)) (rw (read-processor s h p, read-mutex s h o))
+      (rw (read-processor s h p)) (rw (read-processor s h p))
+      (rw (read-processor s h p)
+      (later (not (in-range 1 (s .P) p)) 2 (λ e. later (not (in-range 1 (s .T) o)) 3 (λ f. rw (new-status o (range-true 1 (s .T) o (not-false _ f)))))))
 
   pub cause-shows : (a : Move) → cause-of (encode s) (a .processor) (a .action) (a .operand) ≡ cause s a
-  unfolding cause-of cause encode
-  cause-shows a = later (not (in-range 1 (s .P) (a .processor))) 2 (λ e. by (leb (a .action) 6) refl)
+  unfolding cause-seen cause encode
+  cause-shows a = by (leb (a .action) 6) refl
     where
-      by : (b : Bool) → leb (a .action) 6 ≡ b →
-          refuse (not (b && operand-right (encode s) (a .action) (a .operand))) 3 (refuse (leb 4000 (s .applied)) 8 (refusal-here (encode s) (a .processor) (a .action) (a .operand))) ≡
-          refuse (not (b && operand-fits s (action-of (a .action)) (a .operand))) 3 (refuse (leb 4000 (s .applied)) 8 (refused-here s (a .processor) (action-of (a .action)) (a .operand)))
-      by false e = refl
-      by true e =
-          let l : a .action ≤ 6 = leb-true (a .action) 6 e in
-          rw (operands (a .operand) (a .action) l)
-          (later (not (operand-fits s (action-of (a .action)) (a .operand))) 3
-          (λ f. ap (refuse (leb 4000 (s .applied)) 8) (refusals (a .processor) (a .operand) (a .action) l (not-false _ f))))
+      by : (b : Bool) → leb (a .action) 6 ≡ b → cause-of (encode s) (a .processor) (a .action) (a .operand) ≡ cause s a
+      by true e = same (a .processor) (a .operand) (a .action) (leb-true (a .action) 6 e)
+      by false e = rw e
 
   pub mutex-shows : (p : ℕ) → processor-of (encode s) p .mutex ≡ processor-at s p .mutex
   mutex-shows p = ap (λ (r : declared.Processor). r .mutex) (read-processor s h p)

@@ -1,26 +1,25 @@
 -- A move without a cause that breaks nothing keeps the rules, and each thread in exactly one place.
 -- Assumes nothing.
 use Prim.Native.Nat.{ℕ, zero, suc, _+_, _*_, _≤_, _<_}
-use mathlib.Core.Bool.{Bool, true, false, _&&_, _||_, not, true≢false}
+use mathlib.Core.Bool.{Bool, true, false, _&&_, _||_, true≢false}
 use mathlib.Core.List.{[]}
-use mathlib.Core.Path.{_≡_, refl, ap, _∙_}
+use mathlib.Core.Path.{_≡_, refl, _∙_}
 use native.Mathlib.Omega.{arith}
 use lib.Dec.{eqb, leb}
 use lib.ListN.{length}
 use borrow.Author.Tests.{leb-false}
 use Rattle.reference.specs.Lists.{at, put, sum, is, occurrences}
-use Rattle.reference.specs.State.{State, Processor, Mutex, Life, new, live, terminated, Line, App, L1, L9, TL3, U1, H5, row, same-line, same-life, nobody, free-mutex, processor-at, mutex-at, life-at}
-use Rattle.reference.specs.Step.{View, view, works-on, Action, go, lock, trylock, unlock, yield, exit, create, act, target, created-by, ended-by, put-back, does, Move, action-of, next}
+use Rattle.reference.specs.State.{State, Processor, Mutex, live, terminated, Line, App, L1, L9, TL3, U1, H5, row, same-line, nobody, free-mutex, processor-at, mutex-at}
+use Rattle.reference.specs.Step.{View, view, works-on, Action, go, lock, trylock, unlock, yield, exit, create, act, target, created-by, ended-by, put-back, Move, action-of, next}
 use Rattle.reference.specs.Cause.{is-go, operand-fits, cause}
 use Rattle.reference.specs.Break.{is-empty, line-breaks, step-breaks}
 use Rattle.reference.specs.Safe.{In, one-if}
 use Rattle.reference.proofs.Tests.{range-true}
-use Rattle.reference.proofs.Sums.{is-same, is-other, sum-put, sum-put-zero, sum-at, length-put, at-put, choose-by}
+use Rattle.reference.proofs.Sums.{is-other, sum-put, sum-put-zero, sum-at, length-put, at-put, choose-by}
 use Rattle.reference.proofs.Legal.{Here, legal}
 use Rattle.reference.proofs.Local.{out, ProbeFits}
-use Rattle.reference.proofs.Invariant.{in-registers}
+use Rattle.reference.proofs.Invariant.{in-registers, LivesMove, created-one, ended-one}
 use Rattle.state.specs.Allowed.{Allowed}
-use Rattle.association.proofs.Spots.{Placed}
 use Rattle.association.proofs.Transfers.{works-there}
 use Rattle.shown.proofs.Regular.{Registers, Ranges, Regular, regular-fits, regular-allowed, allowed-regular}
 use Rattle.agreement.proofs.Lines.{Before, After, act-keeps}
@@ -45,14 +44,6 @@ unfolding is
 holds T zero n k r h = omega (arith, is-other k n (omega arith))
 holds T (suc c) n k r h = choose-by (λ x. x ≤ suc c) (eqb k n) (λ e. omega arith) (λ e. omega arith)
 
--- 0 for a live thread, 1 for one that is new or terminated
-abbrev gone : Life → ℕ
-gone l = one-if (not (same-life l live))
-
--- what thread i's creation and thread j's end make of who is gone
-abbrev Turns : State → ℕ → ℕ → Type 0
-Turns s i j = (k : ℕ) → In (s .T) k → gone (at (put (put (s .lives) i live) j terminated) k live) + is k i ≡ gone (life-at s k) + is k j
-
 -- ---- a view is put back
 
 -- a processor works on a ready queue that is there
@@ -60,7 +51,7 @@ works : (s : State) → Regular s → (p : ℕ) → In (s .P) p → In (length (
 works s g p r = omega (arith, works-there s p (regular-fits s g) r, g .placed .count)
 
 module _ (s : State) (g : Regular s) (p m : ℕ) (rp : In (s .P) p) (early : s .applied < 4000) (rm : m ≤ s .M) (i j : ℕ) (w : View)
-    (d : (k : ℕ) → 1 ≤ k → After (s .P) (s .T) (s .M) (is k) m i j (view s p m) w) (b : Turns s i j) where
+    (d : (k : ℕ) → 1 ≤ k → After (s .P) (s .T) (s .M) (is k) m i j (view s p m) w) (b : LivesMove s i j) where
   put-regular : Regular (put-back s p m i j w)
   put-regular =
       let d1 = d 1 (omega arith) in
@@ -130,32 +121,13 @@ module _ (s : State) (g : Regular s) (p : ℕ) (rp : In (s .P) p) where
         f-transit = holds (s .T) (row l .transit) (r .transit) k low (t .transit-high);
       }
 
-  created-one : (o : ℕ) → In (s .T) o → life-at s o ≡ new → Turns s o 0
-  created-one o c e k r =
-      at-put (λ (k : ℕ) (x : Life). gone x + is k o ≡ gone (life-at s k) + is k 0) (s .lives) o k live live (omega (arith, g .placed .lives))
-      (λ i. omega (arith, is-same o, is-other o 0 (omega arith), ap gone e))
-      (λ n. omega (arith, is-other k o n, is-other k 0 (omega arith)))
-
-  ended-one : Turns s 0 (r .current)
-  ended-one k i =
-      at-put (λ (k : ℕ) (x : Life). gone x + is k 0 ≡ gone (life-at s k) + is k (r .current)) (s .lives) (r .current) k terminated live (omega (arith, g .placed .lives))
-      (λ z.
-      omega (
-        arith,
-        is-same (r .current),
-        is-other (r .current) 0 (omega arith),
-        g .placed .one-place (r .current) (omega (arith, g .placed .lives)),
-        sum-at (in-registers (r .current)) (s .processors) p nobody (omega (arith, g .placed .processors)),
-      ))
-      (λ n. omega (arith, is-other k (r .current) n, is-other k 0 (omega arith)))
-
   -- ---- a move
 
   -- what an action on its mutex does
   pub record Moves (a : Action) (o m : ℕ) : Type 0 where
     pub mutex : m ≤ s .M
     pub after : (k : ℕ) → 1 ≤ k → After (s .P) (s .T) (s .M) (is k) m (created-by a o) (ended-by a (r .current)) (view s p m) (act a o (view s p m))
-    pub turns : Turns s (created-by a o) (ended-by a (r .current))
+    pub lives : LivesMove s (created-by a o) (ended-by a (r .current))
 
   abbrev breaks : Bool
   breaks = line-breaks (s .T) (r .position) (view s p (r .mutex))
@@ -177,34 +149,34 @@ module _ (s : State) (g : Regular s) (p : ℕ) (rp : In (s .P) p) where
       record {
         mutex = most;
         after = λ k i. act-keeps (s .P) (s .T) (s .M) (is k) go o (view s p (r .mutex)) (before l refl (r .mutex) most (z .0) (z .1) k i) tt;
-        turns = λ k i. refl;
+        lives = λ k i. refl;
       }
   moves lock o c h b =
       let i = range-true 1 (s .M) o c in
-      record { mutex = i .1; after = λ k l. act-keeps (s .P) (s .T) (s .M) (is k) lock o (view s p o) (called (h .call refl) o (i .1) k l) i; turns = λ k i. refl }
+      record { mutex = i .1; after = λ k l. act-keeps (s .P) (s .T) (s .M) (is k) lock o (view s p o) (called (h .call refl) o (i .1) k l) i; lives = λ k i. refl }
   moves trylock o c h b =
       let i = range-true 1 (s .M) o c in
-      record { mutex = i .1; after = λ k l. act-keeps (s .P) (s .T) (s .M) (is k) trylock o (view s p o) (called (h .call refl) o (i .1) k l) i; turns = λ k i. refl }
+      record { mutex = i .1; after = λ k l. act-keeps (s .P) (s .T) (s .M) (is k) trylock o (view s p o) (called (h .call refl) o (i .1) k l) i; lives = λ k i. refl }
   moves unlock o c h b =
       let i = range-true 1 (s .M) o c in
       record {
         mutex = i .1;
         after = λ k l. act-keeps (s .P) (s .T) (s .M) (is k) unlock o (view s p o) (called (h .call refl) o (i .1) k l) (i, h .owner refl);
-        turns = λ k i. refl;
+        lives = λ k i. refl;
       }
   moves yield o c h b =
       let most : r .mutex ≤ s .M = g .registers p rp .mutex-most in
-      record { mutex = most; after = λ k l. act-keeps (s .P) (s .T) (s .M) (is k) yield o (view s p (r .mutex)) (called (h .call refl) (r .mutex) most k l) tt; turns = λ k i. refl }
+      record { mutex = most; after = λ k l. act-keeps (s .P) (s .T) (s .M) (is k) yield o (view s p (r .mutex)) (called (h .call refl) (r .mutex) most k l) tt; lives = λ k i. refl }
   moves exit o c h b =
       let most : r .mutex ≤ s .M = g .registers p rp .mutex-most in
-      record { mutex = most; after = λ k l. act-keeps (s .P) (s .T) (s .M) (is k) exit o (view s p (r .mutex)) (called (h .call refl) (r .mutex) most k l) tt; turns = ended-one }
+      record { mutex = most; after = λ k l. act-keeps (s .P) (s .T) (s .M) (is k) exit o (view s p (r .mutex)) (called (h .call refl) (r .mutex) most k l) tt; lives = ended-one s p (g .placed .lives) (g .placed .processors) rp (g .placed .one-place _) }
   moves create o c h b =
       let most : r .mutex ≤ s .M = g .registers p rp .mutex-most in
       let i = range-true 1 (s .T) o c in
       record {
         mutex = most;
         after = λ k l. act-keeps (s .P) (s .T) (s .M) (is k) create o (view s p (r .mutex)) (called (h .call refl) (r .mutex) most k l) i;
-        turns = created-one o i (h .unborn refl);
+        lives = created-one s o (g .placed .lives) (h .unborn refl);
       }
 
 -- ---- of the whole state
@@ -220,12 +192,8 @@ module _ (s : State) (a : Move) (e : cause s a ≡ 0) (b : step-breaks s a ≡ f
   next-regular g =
       let l = legal s a e in
       let w = move-moves g in
-      put-regular s g (a .processor) _ (l .processor) (l .room) (w .mutex) _ _ _ (w .after) (w .turns)
+      put-regular s g (a .processor) _ (l .processor) (l .room) (w .mutex) _ _ _ (w .after) (w .lives)
 
   -- the rules are kept
   pub next-allowed : Allowed s → Allowed (next s a)
   next-allowed h = regular-allowed (next s a) (next-regular (allowed-regular s h))
-
-  -- each thread still has exactly one place
-  pub next-placed : Allowed s → Placed (next s a)
-  next-placed h = next-regular (allowed-regular s h) .placed

@@ -18,7 +18,7 @@ use Rattle.state.specs.Association.{processor-record}
 use Rattle.state.proofs.Branch.{if-none, if-some}
 use Rattle.association.proofs.Transfers.{number}
 use Rattle.shown.proofs.Regular.{Regular}
-use Rattle.step.specs.Model.{next-probe, on-ring, index-of}
+use Rattle.step.specs.model.Moves.{next-probe, on-ring, index-of}
 
 -- back to 0 after n − 1
 pub next-is : (n l : ℕ) → l < n → next-probe n l ≡ suc l % n

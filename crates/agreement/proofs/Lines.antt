@@ -2,39 +2,16 @@
 -- Assumes nothing.
 use Prim.Native.Nat.{ℕ, suc, _+_, _-_, _≤_}
 use mathlib.Core.Bool.{_||_}
-use mathlib.Core.List.{List, [], _∷_, _++_}
 use mathlib.Core.Path.{_≡_, ap, sym, subst}
 use native.Mathlib.Omega.{arith}
 use native.Mathlib.Nat.{mod-lt}
 use Rattle.reference.specs.Lists.{sum}
 use Rattle.reference.specs.State.{Mutex, Line, App, CI2, CI3, L1, L3, L4, L6, L7, L8, L9, L10, TL1, GT1, GT3, TL3, U1, H2, H3, H5, H6, H8, Y1, Y2, Y3, C2, row, same-line, same-token}
 use Rattle.reference.specs.Step.{View, line, own-token, Action, go, lock, trylock, unlock, yield, exit, create, act, target, created-by, ended-by}
-use Rattle.reference.specs.Safe.{In, one-if}
-use Rattle.reference.proofs.Sums.{some, some-pos, sum-snoc, choose-by, if-zero-by, if-empty-by}
-use Rattle.reference.proofs.Local.{out, out-in, in-out, from, Allowed, ProbeFits}
+use Rattle.reference.specs.Safe.{one-if}
+use Rattle.reference.proofs.Sums.{some, some-pos, choose-by, if-zero-by, if-empty-by}
+use Rattle.reference.proofs.Local.{out, first-taken, joined, from, Allowed, ProbeFits}
 use Rattle.shown.proofs.Regular.{Registers, Ranges}
-
--- the first of a queue is taken
-record Taken (T : ℕ) (f : ℕ → ℕ) (q : List ℕ) (x : ℕ) (xs : List ℕ) : Type 0 where
-  share : sum f q ≡ f x + sum f xs
-  rest : sum (out T) xs ≡ 0
-  low : 1 ≤ x
-  high : x ≤ T
-
-taken : (T : ℕ) (f : ℕ → ℕ) {q : List ℕ} {x : ℕ} {xs : List ℕ} → q ≡ x ∷ xs → sum (out T) q ≡ 0 → Taken T f q x xs
-unfolding sum
-taken T f {q} {x} {xs} e h =
-    let d : sum (out T) q ≡ out T x + sum (out T) xs = ap (sum (out T)) e in
-    let r : In T x = out-in T x (omega arith) in
-    record { share = ap (sum f) e; rest = omega arith; low = r .0; high = r .1 }
-
--- a thread joins a queue
-record Joined (T : ℕ) (f : ℕ → ℕ) (q : List ℕ) (x : ℕ) : Type 0 where
-  share : sum f (q ++ x ∷ []) ≡ sum f q + f x
-  rest : sum (out T) (q ++ x ∷ []) ≡ 0
-
-joined : (T : ℕ) (f : ℕ → ℕ) (q : List ℕ) (x : ℕ) → sum (out T) q ≡ 0 → 1 ≤ x → x ≤ T → Joined T f q x
-joined T f q x h low high = record { share = sum-snoc f q x; rest = omega (arith, sum-snoc (out T) q x, in-out T x low high) }
 
 -- the fields of a mutex's record stay
 pub record Same (x y : Mutex) : Type 0 where
@@ -79,22 +56,22 @@ module _ (P T M : ℕ) (f : ℕ → ℕ) where
   unfolding line
   line-keeps App v h = subst (λ (n : Line). After′ n (v .proc .mutex) 0 0 v v) (sym (h .here)) (omega arith)
   line-keeps CI2 v h =
-      if-empty-by (Goes v) (v .ready) (λ e. omega (arith, mod-lt (suc (v .proc .probe)) {m = v .queues} (omega arith))) (λ x xs e. omega (arith, taken T f e (h .ready)))
+      if-empty-by (Goes v) (v .ready) (λ e. omega (arith, mod-lt (suc (v .proc .probe)) {m = v .queues} (omega arith))) (λ x xs e. omega (arith, first-taken T f e (h .ready)))
   line-keeps CI3 v h = omega arith
   line-keeps L1 v h = if-zero-by (Goes v) (v .mutex .count) (λ e. omega arith) (λ c e. omega arith)
   line-keeps L3 v h = omega arith
-  line-keeps L4 v h = omega (arith, joined T f (v .mutex .queue) (v .proc .transit) (h .mutex .queue) (omega arith) (omega arith))
+  line-keeps L4 v h = omega (arith, joined T f (v .mutex .queue) (v .proc .transit) (h .mutex .sound .queue) (omega arith) (omega arith))
   line-keeps L6 v h = if-zero-by (Goes v) (v .mutex .token .processor) (λ e. omega arith) (λ c e. omega (arith, ap some e))
   line-keeps L7 v h = if-empty-by (Goes v) (v .mutex .queue) (λ e. omega arith) (λ x xs e. omega arith)
   line-keeps L8 v h = choose-by (Goes v) (same-token (v .mutex .token) (v .proc .observed)) (λ e. omega arith) (λ e. omega arith)
-  line-keeps L9 v h = if-empty-by (Goes v) (v .mutex .queue) (λ e. omega arith) (λ x xs e. omega (arith, taken T f e (h .mutex .queue)))
+  line-keeps L9 v h = if-empty-by (Goes v) (v .mutex .queue) (λ e. omega arith) (λ x xs e. omega (arith, first-taken T f e (h .mutex .sound .queue)))
   line-keeps L10 v h = omega arith
   line-keeps TL1 v h = if-zero-by (Goes v) (v .mutex .count) (λ e. omega arith) (λ c e. omega arith)
   line-keeps GT1 v h = if-zero-by (Goes v) (v .mutex .token .processor) (λ e. omega arith) (λ c e. omega (arith, ap some e))
   line-keeps GT3 v h = choose-by (Goes v) (same-token (v .mutex .token) (v .proc .observed)) (λ e. omega arith) (λ e. omega arith)
   line-keeps TL3 v h = omega arith
   line-keeps U1 v h = if-zero-by (Goes v) (v .mutex .count - 1) (λ e. omega arith) (λ c e. omega arith)
-  line-keeps H2 v h = if-empty-by (Goes v) (v .mutex .queue) (λ e. omega arith) (λ x xs e. omega (arith, taken T f e (h .mutex .queue)))
+  line-keeps H2 v h = if-empty-by (Goes v) (v .mutex .queue) (λ e. omega arith) (λ x xs e. omega (arith, first-taken T f e (h .mutex .sound .queue)))
   line-keeps H3 v h = omega (arith, joined T f (v .ready) (v .proc .transit) (h .ready) (omega arith) (omega arith))
   line-keeps H5 v h = omega (arith, some-pos (v .self) (omega arith))
   line-keeps H6 v h = if-empty-by (Goes v) (v .mutex .queue) (λ e. omega arith) (λ x xs e. omega arith)

@@ -7,18 +7,17 @@ use native.Mathlib.Omega.{arith}
 use lib.Dec.{eqb}
 use borrow.Author.Tests.{lt-ltb, eqb-true, ne-eqb}
 use Rattle.state.specs.declared.State.{State}
-use Rattle.state.specs.Record.{zero-mutex, processor-of}
+use Rattle.state.specs.Record.{zero-mutex, processor-of, Sized}
 use Rattle.state.specs.Association.{encode, decode, mutex-record}
-use Rattle.state.specs.Model.{with-processor, with-mutex, with-chains, with-applied}
+use Rattle.state.specs.model.Access.{with-processor, with-mutex, with-chains, with-applied}
 use Rattle.state.specs.Rules.{state-ok}
 use Rattle.state.specs.Allowed.{Allowed}
-use Rattle.state.proofs.Sized.{Sized}
 use Rattle.step.specs.declared.View as code
 use Rattle.step.specs.declared.Effect.{Effect}
 use Rattle.step.specs.declared.Moved.{Moved}
-use Rattle.step.specs.Model.{up-to, target-of, view-of, act-effect, put-effect, stepped-of, step-breaks-of, refusal-of, moved-of}
+use Rattle.step.specs.model.Moves.{up-to, target-of, view-of, act-effect, put-effect, stepped-of, step-breaks-of, refusal-of, moved-of}
 use Rattle.reference.specs.Refusal.{bad-record, refuse}
-use Rattle.reference.specs.Lists.{choose, if-zero, is}
+use Rattle.reference.specs.Lists.{choose, if-zero}
 use Rattle.reference.specs.State as reference
 use Rattle.reference.specs.State.{processor-at, mutex-at}
 use Rattle.reference.specs.Step.{View, view, put-back, act, Action, action-of, target, created-by, ended-by, Move, next}

@@ -17,14 +17,14 @@ use Rattle.state.specs.Association.{encode, processor-record, mutex-record, tok
 use Rattle.step.specs.declared.View as code
 use Rattle.step.specs.declared.Effect.{Effect}
 use Rattle.step.specs.declared.Transfer.the-variants.{Stay}
-use Rattle.step.specs.Model as model
-use Rattle.step.specs.Model.{up-to, on-taken, effects, stay, at-CI2, at-CI3, at-L1, at-L3, at-L4, at-L6, at-L7, at-L8, at-L9, at-L10, at-TL1, at-GT1, at-GT3, at-TL3, at-U1, at-H2, at-H3, at-H5, at-H6, at-H8, at-Y1, at-Y2, at-Y3, at-C2, line-effect, lock-call, trylock-call, unlock-call, yield-call, exit-call, create-call, act-effect, carried}
+use Rattle.step.specs.model.Moves as model
+use Rattle.step.specs.model.Moves.{up-to, on-taken, effects, stay, at-CI2, at-CI3, at-L1, at-L3, at-L4, at-L6, at-L7, at-L8, at-L9, at-L10, at-TL1, at-GT1, at-GT3, at-TL3, at-U1, at-H2, at-H3, at-H5, at-H6, at-H8, at-Y1, at-Y2, at-Y3, at-C2, line-effect, lock-call, trylock-call, unlock-call, yield-call, exit-call, create-call, act-effect, carried}
 use Rattle.reference.specs.Lists.{choose, if-zero, if-empty}
 use Rattle.reference.specs.State as reference
 use Rattle.reference.specs.State.{Line, App, CI2, CI3, L1, L3, L4, L6, L7, L8, L9, L10, TL1, GT1, GT3, TL3, U1, H2, H3, H5, H6, H8, Y1, Y2, Y3, C2, row, same-token, processor-at, mutex-at}
 use Rattle.reference.specs.Step.{View, view, works-on, line, own-token, put-back, act, Action, go, lock, trylock, unlock, yield, exit, create, action-of, target, created-by, ended-by}
 use Rattle.reference.specs.Cause.{is-go, operand-fits}
-use Rattle.reference.specs.Snapshot.{first}
+use Rattle.reference.specs.Picture.{first}
 use Rattle.reference.specs.Safe.{In}
 use Rattle.reference.proofs.Tests.{range-true}
 use Rattle.state.proofs.Numbers.{queue-mutex}
@@ -112,7 +112,7 @@ module _ (s : reference.State) (g : Regular s) (p : ℕ) where
     count-up : up-to 255 (x .count) ≡ suc (x .count)
     count-up = up-one 255 (x .count) (omega (arith, g .t-range, g .mutex m (omega arith)))
 
-  pub line-agrees : processor-at s p .probe < length (s .ready) → (l : Line) → Registers (s .P) (s .T) (s .M) l (processor-at s p) → R (getD effects (row l .number) stay c) (line l v)
+  line-agrees : processor-at s p .probe < length (s .ready) → (l : Line) → Registers (s .P) (s .T) (s .M) l (processor-at s p) → R (getD effects (row l .number) stay c) (line l v)
   unfolding line at-CI2 at-CI3 at-L1 at-L3 at-L4 at-L6 at-L7 at-L8 at-L9 at-L10 at-TL1 at-GT1 at-GT3 at-TL3 at-U1 at-H2 at-H3 at-H5 at-H6 at-H8 at-Y1 at-Y2 at-Y3 at-C2
   line-agrees k App h = stays m refl refl refl refl refl refl refl
   line-agrees k CI2 h =

@@ -12,13 +12,13 @@ use Rattle.reference.specs.Lists.{occurrences, tabulate}
 use Rattle.reference.specs.State as reference
 use Rattle.reference.specs.State.{processor-at, life-at}
 use Rattle.reference.specs.Safe.{In}
-use Rattle.reference.specs.Snapshot.{entry, behind, first}
+use Rattle.reference.specs.Picture.{entry, behind, first}
 use Rattle.state.specs.declared.Thread.{Thread}
 use Rattle.state.specs.declared.Chains.{Chains}
 use Rattle.state.specs.Record.{zero-thread, thread-in, first-of}
 use Rattle.state.specs.Association.{encode, thread-record, thread-row, queue-at, queued-as}
-use Rattle.state.specs.Model.{queued-in, last-from, removed, joined, placed}
-use Rattle.state.proofs.Model.{last-stop, last-on, joined-none, joined-some}
+use Rattle.state.specs.model.Access.{queued-in, last-from, removed, joined, placed}
+use Rattle.state.proofs.Joining.{last-stop, last-on, joined-none, joined-some}
 use Rattle.association.proofs.Tables.{tabulate-ext, tabulate-set, tabulate-two}
 use Rattle.association.proofs.Spots.{Spot, queued, current, transit, new, terminated, AtSpot, entry-for, Placed, spot-of, spot-entry}
 use Rattle.association.proofs.Shown.{Fits, row-some, row-none, placed-once, queue-thread, queue-next, queue-walk, first-none, first-some}
@@ -51,7 +51,7 @@ module _ (s e : reference.State) (h : Fits s) (g : Placed e) (k : ℕ) (o : Othe
   same-entry j b terminated = refl
 
   -- so its row is the same, if the one behind it is
-  pub row-stays : (j : ℕ) → j ≢ k → ((q : ℕ) → behind j (queue-at e q) ≡ behind j (queue-at s q)) → thread-row e j ≡ thread-row s j
+  row-stays : (j : ℕ) → j ≢ k → ((q : ℕ) → behind j (queue-at e q) ≡ behind j (queue-at s q)) → thread-row e j ≡ thread-row s j
   row-stays j n b =
       elim (decLe 1 j) [
         | no l ↦ row-none e j (λ r. omega arith) ∙ sym (row-none s j (λ r. omega arith))
@@ -67,28 +67,28 @@ module _ (s e : reference.State) (h : Fits s) (g : Placed e) (k : ℕ) (o : Othe
       ]
 
   -- and any row follows from where the thread is now
-  pub row-now : (j : ℕ) → In (s .T) j → (x : Spot) → AtSpot e j x → thread-row e j ≡ thread-record (entry-for e j x)
+  row-now : (j : ℕ) → In (s .T) j → (x : Spot) → AtSpot e j x → thread-row e j ≡ thread-record (entry-for e j x)
   row-now j r x a = row-some e j (omega (arith, o .T)) ∙ ap thread-record (spot-entry e g j (omega (arith, o .T)) x a)
 
   -- ---- the tables
 
-  pub threads-set : In (s .T) k → ((q j : ℕ) → j ≢ k → behind j (queue-at e q) ≡ behind j (queue-at s q)) → (x : Spot) → AtSpot e k x →
+  threads-set : In (s .T) k → ((q j : ℕ) → j ≢ k → behind j (queue-at e q) ≡ behind j (queue-at s q)) → (x : Spot) → AtSpot e k x →
       encode e .chains .threads ≡ set (encode s .chains .threads) k (thread-record (entry-for e k x))
   unfolding encode
   threads-set r b x a =
       tabulate-set (thread-row s) (thread-row e) 33 k (omega (arith, h .t-most)) (λ j l n. row-stays j n (λ q. b q j n)) ∙
       ap (set (tabulate (thread-row s) 0 33) k) (row-now k r x a)
 
-pub firsts-set : (s e : reference.State) → (q : ℕ) → q ≤ 16 → ((n : ℕ) → n ≢ q → queue-at e n ≡ queue-at s n) →
+firsts-set : (s e : reference.State) → (q : ℕ) → q ≤ 16 → ((n : ℕ) → n ≢ q → queue-at e n ≡ queue-at s n) →
     encode e .chains .firsts ≡ set (encode s .chains .firsts) q (first (queue-at e q))
 unfolding encode
 firsts-set s e q l f = tabulate-set (λ q. first (queue-at s q)) (λ q. first (queue-at e q)) 17 q (omega arith) (λ j x n. ap first (f j n))
 
-pub firsts-same : (s e : reference.State) → ((q : ℕ) → first (queue-at e q) ≡ first (queue-at s q)) → encode e .chains .firsts ≡ encode s .chains .firsts
+firsts-same : (s e : reference.State) → ((q : ℕ) → first (queue-at e q) ≡ first (queue-at s q)) → encode e .chains .firsts ≡ encode s .chains .firsts
 unfolding encode
 firsts-same s e f = tabulate-ext (λ q. first (queue-at e q)) (λ q. first (queue-at s q)) 0 17 (λ j x y. f j)
 
-pub threads-same : (s e : reference.State) → Fits s → Placed e → Others s e 0 → ((q : ℕ) → queue-at e q ≡ queue-at s q) → encode e .chains .threads ≡ encode s .chains .threads
+threads-same : (s e : reference.State) → Fits s → Placed e → Others s e 0 → ((q : ℕ) → queue-at e q ≡ queue-at s q) → encode e .chains .threads ≡ encode s .chains .threads
 unfolding encode
 threads-same s e h g o f = tabulate-ext (thread-row e) (thread-row s) 0 33 (λ j x y. by j)
   where
@@ -96,7 +96,7 @@ threads-same s e h g o f = tabulate-ext (thread-row e) (thread-row s) 0 33 (λ j
     by zero = row-none e 0 (λ r. omega arith) ∙ sym (row-none s 0 (λ r. omega arith))
     by (suc j) = row-stays s e h g 0 o (suc j) (omega arith) (λ q. ap (behind (suc j)) (f q))
 
-pub chains-by : (c : Chains) {f : List ℕ} {t : List Thread} → c .firsts ≡ f → c .threads ≡ t → c ≡ record { firsts = f; threads = t }
+chains-by : (c : Chains) {f : List ℕ} {t : List Thread} → c .firsts ≡ f → c .threads ≡ t → c ≡ record { firsts = f; threads = t }
 chains-by c e d = λ i. record { firsts = e i; threads = d i }
 
 -- ---- no thread moves, or one: between places that are no queues, out of a queue, into a queue
@@ -140,7 +140,7 @@ module _ (s e : reference.State) (h : Fits s) (g : Placed e) where
           queue-row-now k r (occurs-here k (queue-at s q) []) ∙
           ap (queued-as q) (behind-at k (queue-at s q) [] (rw now at (placed-once e g q k (omega (arith, o .T)))))
 
-      pub joins-empty : queue-at s q ≡ [] →
+      joins-empty : queue-at s q ≡ [] →
           encode e .chains ≡ chains-of (set (encode s .chains .firsts) q k) (set (encode s .chains .threads) k (queued-in q))
       unfolding encode
       joins-empty was =
@@ -176,7 +176,7 @@ module _ (s e : reference.State) (h : Fits s) (g : Placed e) where
             getD-set-other (encode s .chains .threads) k (last x rest) (queued-in q) zero-thread (λ c. not-last (sym c)) ∙
             queue-next s h q (last x rest) (all-before x rest) [] (was ∙ last-split x rest)
 
-        pub joins-after :
+        joins-after :
             encode e .chains ≡ chains-of (encode s .chains .firsts) (set (set (encode s .chains .threads) k (queued-in q)) (last x rest) (queued-as q k))
         unfolding encode
         joins-after =

@@ -13,7 +13,7 @@ use lib.ListN.{length}
 use borrow.Author.Tests.{eq-eqb, ne-eqb}
 use Rattle.reference.specs.Lists.{sum, is, occurrences, choose, in-range, tabulate}
 use Rattle.reference.specs.Safe.{In}
-use Rattle.reference.specs.Snapshot.{behind, first}
+use Rattle.reference.specs.Picture.{behind, first}
 use Rattle.reference.proofs.Tests.{both-left, both-right, range-true}
 use Rattle.reference.proofs.Sums.{is-same, is-other, sum-snoc, sum-one}
 use Rattle.state.specs.Rules.{every}

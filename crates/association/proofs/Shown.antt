@@ -14,7 +14,7 @@ use Rattle.reference.specs.Lists.{at, sum, occurrences, if-empty, in-range}
 use Rattle.reference.specs.State as reference
 use Rattle.reference.specs.State.{nobody, free-mutex, processor-at, mutex-at}
 use Rattle.reference.specs.Safe.{In}
-use Rattle.reference.specs.Snapshot.{thread-entry, behind, first}
+use Rattle.reference.specs.Picture.{thread-entry, behind, first}
 use Rattle.reference.proofs.Tests.{both-left, _and_, true-range, range-true}
 use Rattle.reference.proofs.Sums.{sum-at}
 use Rattle.state.specs.declared.Thread.{Thread}
@@ -23,7 +23,7 @@ use Rattle.state.specs.declared.Mutex.{Mutex}
 use Rattle.state.specs.declared.State.{State}
 use Rattle.state.specs.declared.queues.Taken.the-variants as answer
 use Rattle.state.specs.declared.queues.Taken.the-variants.{Nothing}
-use Rattle.state.specs.Model.{taken}
+use Rattle.state.specs.model.Access.{taken}
 use Rattle.state.specs.Record.{zero-thread, zero-processor, zero-mutex, thread-of, processor-of, mutex-of, first-of}
 use Rattle.state.specs.Association.{encode, processor-record, mutex-record, thread-record, thread-row, queue-at, ready-index, queued-as}
 use Rattle.state.proofs.Numbers.{at-past, by-number}
@@ -97,11 +97,11 @@ some-number (suc c) P i r l u = omega arith
 -- ---- reads
 
 module _ (s : reference.State) (h : Fits s) where
-  pub mutex-past : (m : ℕ) → s .M < m → mutex-at s m ≡ free-mutex
+  mutex-past : (m : ℕ) → s .M < m → mutex-at s m ≡ free-mutex
   mutex-past m l = at-past (s .mutexes) m free-mutex (omega (arith, h .placed .mutexes))
 
   -- there are 17 queues
-  pub queue-past : (q : ℕ) → 16 < q → queue-at s q ≡ []
+  queue-past : (q : ℕ) → 16 < q → queue-at s q ≡ []
   queue-past q =
       by-number s (λ q l. 16 < q → l ≡ []) (h .placed .count) (λ q l. refl)
       (λ i l u. absurd (some-number (s .stealing) (s .P) i (omega (arith, h .placed .count)) (h .p-most) u)) (λ m l b u. absurd (omega arith)) q

@@ -1,25 +1,25 @@
--- Where a thread is: in a state that holds each thread once each thread has exactly one spot, and its entry in the picture follows from it.
+-- Where a thread is: in a state that holds each thread once each thread has a spot, and its entry in the picture follows from it.
 -- Assumes nothing.
 use Prim.Native.Nat.{ℕ, zero, suc, _+_, _≤_}
-use mathlib.Core.Bool.{Bool, true, false, not}
-use mathlib.Core.List.{[], _∷_}
+use mathlib.Core.Bool.{Bool, not}
+use mathlib.Core.List.{[]}
 use mathlib.Core.Path.{_≡_, refl, ap, sym, _∙_}
 use native.Mathlib.Nat.{not-suc-le-zero}
 use native.Mathlib.Omega.{arith}
 use native.Mathlib.Decide.{ℕ-discrete, decLe}
 use lib.Dec.{eqb, leb}
-use lib.ListN.{length, getD}
+use lib.ListN.{length}
 use borrow.Author.Tests.{eq-eqb, ne-eqb, le-leb, lt-leb}
-use Rattle.reference.specs.Lists.{choose, in-range, find, sum, is, occurrences, if-zero}
+use Rattle.reference.specs.Lists.{find, sum, is, occurrences, if-zero}
 use Rattle.reference.specs.State as reference
 use Rattle.reference.specs.State.{Life, live, same-life, nobody, free-mutex, processor-at, mutex-at, life-at}
 use Rattle.reference.specs.Safe.{In, one-if, held}
-use Rattle.reference.specs.Snapshot.{Entry, entry, thread-entry, behind, stands-in, or-else, unheld}
+use Rattle.reference.specs.Picture.{Entry, entry, thread-entry, behind, stands-in, or-else, unheld}
 use Rattle.reference.proofs.Sums.{is-same, is-other, sum-at, sum-some}
 use Rattle.state.specs.declared.Thread.{Thread}
 use Rattle.state.specs.Allowed.{Allowed}
 use Rattle.state.specs.Association.{queue-at, ready-index, queued-as}
-use Rattle.state.proofs.Numbers.{queue-mutex, queue-ready, by-number, ready-as, mutex-as, number-of, number-back}
+use Rattle.state.proofs.Numbers.{queue-mutex, queue-ready, by-number, ready-as, mutex-as}
 use Rattle.association.proofs.Tables.{find-none, find-one, sum-plus}
 
 -- in one of the record's queues, in a register, or in none
@@ -231,29 +231,3 @@ module _ (s : reference.State) (h : Placed s) (k : ℕ) (r : In (s .T) k) where
               | no o ↦ in-processor (omega arith) (omega arith)
             ]
       ]
-
--- ---- and only one
-
--- the spot of an entry
-spot-by : ℕ → ℕ → Spot
-spot-by n h = getD (new ∷ queued (if-zero h 0 (8 + h)) ∷ queued h ∷ current h ∷ transit h ∷ terminated ∷ []) n new
-
-spot-queued : (q : ℕ) → spot-by (queued-as q 0 .status) (queued-as q 0 .holder) ≡ queued q
-unfolding spot-by
-spot-queued q = by (in-range 1 8 q) (queued-as q 0 .holder) ∙ ap queued (number-back q 0)
-  where
-    by : (b : Bool) (h : ℕ) → spot-by (choose b 2 1) h ≡ queued (number-of (choose b 2 1) h)
-    by true h = refl
-    by false h = refl
-
-spot-back : (s : reference.State) (k : ℕ) (x : Spot) → spot-by (entry-for s k x .status) (entry-for s k x .holder) ≡ x
-unfolding spot-by
-spot-back s k (queued q) = spot-queued q
-spot-back s k (current p) = refl
-spot-back s k (transit p) = refl
-spot-back s k new = refl
-spot-back s k terminated = refl
-
-pub spot-one : (s : reference.State) → Placed s → (k : ℕ) → In (s .T) k → (x y : Spot) → AtSpot s k x → AtSpot s k y → x ≡ y
-spot-one s h k r x y a b =
-    sym (spot-back s k x) ∙ ap (λ (e : Entry). spot-by (e .status) (e .holder)) (sym (spot-entry s h k r x a) ∙ spot-entry s h k r y b) ∙ spot-back s k y

@@ -13,17 +13,17 @@ use Rattle.reference.specs.State as reference
 use Rattle.reference.specs.State.{nobody, free-mutex, live, probes, processor-at, mutex-at}
 use Rattle.reference.specs.Step.{View, works-on, put-back}
 use Rattle.reference.specs.Safe.{In}
-use Rattle.reference.specs.Snapshot.{first}
+use Rattle.reference.specs.Picture.{first}
 use Rattle.reference.proofs.Sums.{around-in, at-put-same, at-put-other}
 use Rattle.reference.proofs.Invariant.{some-queue}
 use Rattle.state.specs.declared.Thread.{Thread}
 use Rattle.state.specs.declared.Chains.{Chains}
 use Rattle.state.specs.Record.{zero-mutex}
-use Rattle.state.specs.Model.{removed, joined, placed, with-applied, with-processor, with-mutex, with-chains}
+use Rattle.state.specs.model.Access.{removed, joined, placed, with-applied, with-processor, with-mutex, with-chains}
 use Rattle.state.specs.Association.{encode, processor-record, mutex-record, thread-record, queue-at, ready-index}
 use Rattle.state.proofs.Branch.{if-none, if-some}
 use Rattle.state.proofs.Numbers as numbers
-use Rattle.association.proofs.Tables.{tabulate-ext, tabulate-set}
+use Rattle.association.proofs.Tables.{tabulate-set}
 use Rattle.association.proofs.Queues.{occurs-skip, occurs-snoc}
 use Rattle.association.proofs.Spots.{Spot, current, transit, terminated, AtSpot, entry-for, Placed}
 use Rattle.association.proofs.Shown.{Fits}
@@ -50,7 +50,7 @@ most : (stealing P i : ℕ) → In (reference.queues stealing P) i → P ≤ 8 �
 most zero P i r l = omega arith
 most (suc c) P i r l = omega arith
 
-pub number-most : (s : reference.State) (p : ℕ) → Fits s → In (s .P) p → number s p ≤ 16
+number-most : (s : reference.State) (p : ℕ) → Fits s → In (s .P) p → number s p ≤ 16
 number-most s p h r = most (s .stealing) (s .P) (works-on s p) (works-there s p h r) (h .p-most)
 
 -- what a register held, if not 0 and not k, it still holds
@@ -189,14 +189,14 @@ module _ (s : reference.State) (p m i j : ℕ) (v : View) (f : Frame s p m i j v
 
   -- ---- processors and mutexes
 
-  pub processors-set : encode e .processors ≡ set (encode s .processors) p (processor-record (v .proc))
+  processors-set : encode e .processors ≡ set (encode s .processors) p (processor-record (v .proc))
   unfolding encode
   processors-set =
       tabulate-set (λ r. processor-record (processor-at s r)) (λ r. processor-record (processor-at e r)) 9 p (omega (arith, f .processor, f .before .p-most))
       (λ r l n. ap processor-record (proc-other r n)) ∙ ap (λ (r : reference.Processor). set (tabulate (λ r. processor-record (processor-at s r)) 0 9) p (processor-record r)) proc-here
 
   -- mutex 0 is none, and its record zero
-  pub mutexes-set : (m ≡ 0 → mutex-record (v .mutex) ≡ zero-mutex) → encode e .mutexes ≡ set (encode s .mutexes) m (mutex-record (v .mutex))
+  mutexes-set : (m ≡ 0 → mutex-record (v .mutex) ≡ zero-mutex) → encode e .mutexes ≡ set (encode s .mutexes) m (mutex-record (v .mutex))
   unfolding encode
   mutexes-set h =
       tabulate-set (λ n. mutex-record (mutex-at s n)) (λ n. mutex-record (mutex-at e n)) 9 m (omega (arith, f .mutex, f .before .m-most))
@@ -204,18 +204,6 @@ module _ (s : reference.State) (p m i j : ℕ) (v : View) (f : Frame s p m i j v
     where
       none : m ≡ 0 → mutex-record (mutex-at e m) ≡ mutex-record (v .mutex)
       none d = subst (λ (n : ℕ). mutex-record (mutex-at e n) ≡ zero-mutex) (sym d) refl ∙ sym (h d)
-
-  pub mutexes-same : mutex-record (v .mutex) ≡ mutex-record (mutex-at s m) → encode e .mutexes ≡ encode s .mutexes
-  unfolding encode
-  mutexes-same h = tabulate-ext (λ n. mutex-record (mutex-at e n)) (λ n. mutex-record (mutex-at s n)) 0 9 (λ n l k. by n)
-    where
-      by : (n : ℕ) → mutex-record (mutex-at e n) ≡ mutex-record (mutex-at s n)
-      by zero = refl
-      by (suc n) =
-          elim (ℕ-discrete (suc n) m) [
-            | yes d ↦ subst (λ (n : ℕ). mutex-record (mutex-at e n) ≡ mutex-record (mutex-at s n)) (sym d) (ap mutex-record (mutex-here (omega arith)) ∙ h)
-            | no d ↦ ap mutex-record (mutex-other (suc n) d)
-          ]
 
   -- the whole record, of what is known of its chains
   pub record-after : {c : Chains} → (m ≡ 0 → mutex-record (v .mutex) ≡ zero-mutex) → encode e .chains ≡ c →

@@ -1,6 +1,6 @@
 -- A turn is its move, and a class is the moves that it makes, of the contracts.
 -- Assumes nothing.
-use Prim.Native.Nat.{ℕ, _+_, _*_, _≤_}
+use Prim.Native.Nat.{ℕ, _*_, _≤_}
 use mathlib.Core.Bool.{Bool, true, false, not}
 use mathlib.Core.List.{List, [], _∷_, _++_}
 use mathlib.Core.Path.{_≡_, refl, sym, ap, _∙_}
@@ -20,11 +20,12 @@ use Rattle.reference.proofs.Tests.{passed}
 use Rattle.reference.proofs.Laws.{safe}
 use Rattle.session.proofs.Holding.{Holds}
 use Rattle.turns.specs.Contract as contracts
-use Rattle.claim.specs.Demand.{contract, calls, Event, asks, asked, Hand, hand, step, reply, IsSession, opening, in-hand}
+use Rattle.claim.specs.Implementation.{contract, calls}
+use Rattle.claim.specs.Demand3.{Event, asks, asked, Held, held-after, step, reply, IsSession, opening, held-at-end}
 use Rattle.claim.specs.Class.{TurnMoves, turns, done, ClassIs, Classes}
-use Rattle.claim.proofs.Numbers.{replies}
+use Rattle.claim.proofs.Numbers.{reply-is}
 use Rattle.claim.proofs.Leaves.{turn-passed, turn-session, turn-writes}
-use Rattle.claim.proofs.Claim.{Stands, Reached, step-own, first-right, reached}
+use Rattle.claim.proofs.Demand3.{Stands, Reached, step-own, first-right, reached}
 use Rattle.session.specs.Contract.{moved}
 
 -- ---- an accepted turn is its move
@@ -53,9 +54,9 @@ grows c x (p ∷ ps) ms = omega (arith, grows c x ps (turn-after c x ms p), by (
     by false = le-refl (length ms)
 
 module _ (c : Config) (ok : config-cause c ≡ 0) (first : List ℕ) (k : ℕ) (x : List ℕ) (long : short (length first) ≡ false) (right : scripts-ok (c .T) x ≡ true) where
-  turns-stand : (ps : List ℕ) (l : List Move) (h : Hand) → Stands c ok first k l (h .session) (h .journal) → length (class-moves c x l ps) ≤ k →
-      Stands c ok first k (class-moves c x l ps) (hand contract h (turns x ps) .session) (hand contract h (turns x ps) .journal)
-  unfolding class-moves hand turns
+  turns-stand : (ps : List ℕ) (l : List Move) (h : Held) → Stands c ok first k l (h .session) (h .journal) → length (class-moves c x l ps) ≤ k →
+      Stands c ok first k (class-moves c x l ps) (held-after contract h (turns x ps) .session) (held-after contract h (turns x ps) .journal)
+  unfolding class-moves held-after turns
   turns-stand [] l h s top = s
   turns-stand (p ∷ ps) l h s top =
       let number : answer-to c (length first) l (turn x p) own ≡ turn-cause c x l p = rw (long, right) in
@@ -78,8 +79,8 @@ module _ (o : Opening) (j : List ℕ) (e : contract .begin o j .refusal ≡ 0) (
   abbrev ok : config-cause c ≡ 0
   ok = first-right o j e
 
-  abbrev h : Hand
-  h = in-hand contract o j es
+  abbrev h : Held
+  h = held-at-end contract o j es
 
   abbrev l : List Move
   l = left c (length j) (opened o .listed) (asked es)
@@ -95,7 +96,7 @@ module _ (o : Opening) (j : List ℕ) (e : contract .begin o j .refusal ≡ 0) (
   holds = reached o j e es b .1 .holds
 
   said : reply (calls (h .session) (h .journal) q) ≡ record { refusal = answer-to c (length (h .journal)) l q own; buffers = choose (eqb (answer-to c (length (h .journal)) l q own) 0) (fills c l q own) (answers ∷ pictures ∷ []) }
-  said = replies c ok l (h .session) (h .journal) holds (length (h .journal)) refl own q
+  said = reply-is c ok l (h .session) (h .journal) holds (length (h .journal)) refl own q
 
   free : answer-to c (length (h .journal)) l q own ≡ 0
   free = sym (ap (λ (y : Reply). y .refusal) said) ∙ taken
@@ -117,7 +118,7 @@ module _ (o : Opening) (j : List ℕ) (e : contract .begin o j .refusal ≡ 0) (
   after : Stands c ok (h .journal) (length made) made (calls (h .session) (h .journal) q .session) (calls (h .session) (h .journal) q .journal)
   after = step-own c ok (h .journal) (length made) l (h .session) (h .journal) stands q true (eq-eqb _ 0 free) (le-refl (length made))
 
-  one-by-one : Stands c ok (h .journal) (length made) made (hand contract h (turns x ps) .session) (hand contract h (turns x ps) .journal)
+  one-by-one : Stands c ok (h .journal) (length made) made (held-after contract h (turns x ps) .session) (held-after contract h (turns x ps) .journal)
   one-by-one = turns-stand c ok (h .journal) (length made) x long scripted ps l h stands (le-refl (length made))
 
   class-is : ClassIs contract o j es x ps answers pictures

@@ -1,6 +1,6 @@
 -- What an accepted call leaves: a record and a journal of the moves that the reference session then holds.
 -- Assumes nothing.
-use Prim.Native.Nat.{ℕ, _+_, _-_, _*_, _≤_}
+use Prim.Native.Nat.{ℕ, _*_, _≤_}
 use mathlib.Core.List.{List, [], _∷_, _++_}
 use mathlib.Core.Path.{_≡_, ap, _∙_, subst}
 use native.Mathlib.Omega.{arith}
@@ -22,7 +22,7 @@ use Rattle.session.proofs.Answers.{lent-passed}
 use Rattle.session.proofs.Standing.{length-bytes}
 use Rattle.session.proofs.Holding.{Agree, Leaves, or-passed, move-leaves, undo-leaves}
 use Rattle.turns.specs.Contract.{turn-made, turn-refusal, turned, turn-journal, class-refusal, classed, class-journal}
-use Rattle.claim.specs.Demand.{calls}
+use Rattle.claim.specs.Implementation.{calls}
 
 -- ---- an accepted turn is its move
 

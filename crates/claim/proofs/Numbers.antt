@@ -13,13 +13,14 @@ use Rattle.reference.specs.Start.{Config, config-cause, start}
 use Rattle.reference.specs.Step.{Move}
 use Rattle.reference.specs.Cause.{cause}
 use Rattle.reference.specs.Script.{scripts-ok, scripts-cause, progress, turn-move, class-answers, class-pictures}
-use Rattle.reference.specs.Session.{Lent, own, other, Request, move, turn, class, back, moves, short, state-of, lent-length, lacks-room, strange, standing-in, turn-with, answer-to, reply-to}
-use Rattle.session.specs.Contract.{lent-refusal, or-later, move-refusal, moved, standing, replayed, undone}
+use Rattle.reference.specs.Session.{Lent, own, other, Request, move, turn, class, back, moves, short, state-of, lent-length, lacks-room, mismatched, standing-in, turn-with, answer-to, reply-to}
+use Rattle.session.specs.Contract.{lent-refusal, or-later, move-refusal, moved, standing, matches, undone}
 use Rattle.session.proofs.Standing.{moves-front}
 use Rattle.session.proofs.Holding.{Holds, shown-is, config-is, applied-held}
 use Rattle.session.proofs.Numbers.{or-refuse, lent-number, replayed-is, own-replays, move-number, undo-number}
 use Rattle.turns.specs.Contract.{turn-made, turn-refusal, turned, class-refusal, classed, answers-after, pictures-after}
-use Rattle.claim.specs.Demand.{lent-to, calls, reply}
+use Rattle.claim.specs.Implementation.{calls}
+use Rattle.claim.specs.Demand3.{lent-to, reply}
 
 -- both branches alike, and a branch for each of two members
 same-choice : {A : Type 0} (b : Bool) (a : A) → a ≡ choose b a a
@@ -50,9 +51,9 @@ module _ (c : Config) (right : config-cause c ≡ 0) (ms : List Move) (r : Sessi
   pub standing-is : standing r lent ≡ standing-in ms t
   standing-is = ap (λ (k : ℕ). moves k lent) (applied-held c right ms r j h) ∙ standing-lent t
 
-  strange-is : (t : Lent) → not (replayed r (lent-to j t)) ≡ strange c ms t
-  strange-is own = ap not (own-replays c right ms r j h)
-  strange-is (other o) = ap not (replayed-is c right ms r j h o)
+  mismatched-is : (t : Lent) → not (matches r (lent-to j t)) ≡ mismatched c ms t
+  mismatched-is own = ap not (own-replays c right ms r j h)
+  mismatched-is (other o) = ap not (replayed-is c right ms r j h o)
 
   -- the first of the scripts' causes
   scripts-is : (x : List ℕ) → scripts-cause (r .state .t) x ≡ scripts-cause (c .T) x
@@ -79,7 +80,7 @@ module _ (c : Config) (right : config-cause c ≡ 0) (ms : List Move) (r : Sessi
   class-number : (x ps a b : List ℕ) → class-refusal r lent x ps a b ≡ answer-to c size ms (class x ps a b) t
   unfolding class-refusal
   class-number x ps a b =
-      behind _ _ (λ i. refuse (lacks-room (config-is c right ms r j h i) (length ps) a b) 10 (refuse (strange-is t i) 16 (scripts-is x i)))
+      behind _ _ (λ i. refuse (lacks-room (config-is c right ms r j h i) (length ps) a b) 10 (refuse (mismatched-is t i) 16 (scripts-is x i)))
 
   -- the number, whatever is asked and lent
   pub number : (q : Request) → calls r lent q .refusal ≡ answer-to c size ms q t
@@ -88,15 +89,15 @@ module _ (c : Config) (right : config-cause c ≡ 0) (ms : List Move) (r : Sessi
   number (turn x p) = turn-number x p
   number (class x ps a b) = class-number x ps a b
   number back =
-      undo-number c right ms r j h lent ∙ (λ i. refuse (short-is t i) 10 (refuse (eqb (length ms) 0) 9 (refuse (strange-is t i) 16 0)))
+      undo-number c right ms r j h lent ∙ (λ i. refuse (short-is t i) 10 (refuse (eqb (length ms) 0) 9 (refuse (mismatched-is t i) 16 0)))
 
   -- and the further buffers
-  pub replies : (q : Request) → reply (calls r lent q) ≡ reply-to c size ms q t
+  pub reply-is : (q : Request) → reply (calls r lent q) ≡ reply-to c size ms q t
   unfolding answers-after pictures-after classed
-  replies (move a) = λ i. record { refusal = number (move a) i; buffers = same-choice {A = List (List ℕ)} (eqb (answer-to c size ms (move a) t) 0) [] i }
-  replies (turn x p) = λ i. record { refusal = number (turn x p) i; buffers = same-choice {A = List (List ℕ)} (eqb (answer-to c size ms (turn x p) t) 0) [] i }
-  replies back = λ i. record { refusal = number back i; buffers = same-choice {A = List (List ℕ)} (eqb (answer-to c size ms back t) 0) [] i }
-  replies (class x ps a b) =
+  reply-is (move a) = λ i. record { refusal = number (move a) i; buffers = same-choice {A = List (List ℕ)} (eqb (answer-to c size ms (move a) t) 0) [] i }
+  reply-is (turn x p) = λ i. record { refusal = number (turn x p) i; buffers = same-choice {A = List (List ℕ)} (eqb (answer-to c size ms (turn x p) t) 0) [] i }
+  reply-is back = λ i. record { refusal = number back i; buffers = same-choice {A = List (List ℕ)} (eqb (answer-to c size ms back t) 0) [] i }
+  reply-is (class x ps a b) =
       let q : Request = class x ps a b in
       let n = number q in
       (λ i.

@@ -1,20 +1,23 @@
--- The claim is about something: a session with accepted and refused moves, turns, classes and steps back, and with other journals.
+-- A session that demand 3 speaks of: accepted and refused moves, turns, classes and steps back, other journals, and calls of other kinds.
 -- Assumes nothing.
 use Prim.Native.Nat.{ℕ, suc}
 use mathlib.Core.List.{List, [], _∷_, _++_}
 use mathlib.Core.Path.{_≡_, refl, sym, ap, _∙_, subst}
 use native.Mathlib.Omega.{arith}
 use lib.ListN.{length, getD, replicate, length-replicate}
+use Rattle.state.specs.Record.{zero-state}
+use Rattle.state.specs.Rules.{broken-rule, fields-ok, state-ok}
 use Rattle.reference.specs.Lists.{tabulate, those, same-list, each}
 use Rattle.reference.specs.State.{same-state}
 use Rattle.reference.specs.Start.{Config, config-cause, start}
 use Rattle.reference.specs.Step.{Move, move-of, next, run, act, action-of, line}
 use Rattle.reference.specs.Cause.{cause, accepted}
 use Rattle.reference.specs.Script.{script-ok, scripts-ok, progress, turn-move, class-moves, class-answers}
-use Rattle.reference.specs.Session.{Opening, scripted, Request, move, turn, class, back, own, other, Reply, bytes, moves, all-but-last, replays, answers}
+use Rattle.reference.specs.Session.{Opening, scripted, Request, move, turn, class, back, own, other, Reply, bytes, moves, all-but-last, replays, replies}
 use Rattle.turns.specs.Contract as turns
-use Rattle.claim.specs.Demand.{contract, Event, asks, passes, asked, told, IsSession, opening, Agrees}
-use Rattle.claim.proofs.Claim.{claim}
+use Rattle.claim.specs.Implementation.{contract}
+use Rattle.claim.specs.Demand3.{Event, asks, writes, passes, asked, responses, IsSession, opening, Agrees}
+use Rattle.claim.proofs.Demand3.{demand3}
 use Rattle.claim.proofs.Fits.{Fits, is-session}
 
 -- a request lent the session's own journal, or another
@@ -33,8 +36,8 @@ abbrev pub scripts : List ℕ
 scripts = 2 ∷ 1 ∷ 1 ∷ 3 ∷ 1 ∷ replicate 8 0 ++ 1 ∷ 3 ∷ 1 ∷ replicate 10 0
 
 -- thread 2 yields before it unlocks
-abbrev mended : List ℕ
-mended = 2 ∷ 1 ∷ 1 ∷ 3 ∷ 1 ∷ replicate 8 0 ++ 2 ∷ 4 ∷ 0 ∷ 3 ∷ 1 ∷ replicate 8 0
+abbrev yield-first : List ℕ
+yield-first = 2 ∷ 1 ∷ 1 ∷ 3 ∷ 1 ∷ replicate 8 0 ++ 2 ∷ 4 ∷ 0 ∷ 3 ∷ 1 ∷ replicate 8 0
 
 -- thread 1 has 7 calls; thread 2 an action 7
 abbrev too-many : List ℕ
@@ -56,11 +59,11 @@ unfoldable pub after-moves : List Move → List ℕ
 after-moves ms = bytes ms ++ replicate 12000 9
 
 -- of other moves than the sample's, and of its first two
-abbrev strange : List ℕ
-strange = after-moves []
+abbrev mismatched : List ℕ
+mismatched = after-moves []
 
-abbrev same : List ℕ
-same = after-moves (move-of 1 1 1 ∷ move-of 1 0 0 ∷ [])
+abbrev replaying : List ℕ
+replaying = after-moves (move-of 1 1 1 ∷ move-of 1 0 0 ∷ [])
 
 -- three turns, with buffers of n and m bytes; 3 and 144 are needed
 abbrev three : List ℕ → ℕ → ℕ → Request
@@ -73,18 +76,18 @@ sample =
     -- 0: a turn elsewhere than at App is a go; thread 1 owns the mutex
     ask (turn scripts 1) ∷
     -- 6, 6: a refused turn, and tried again; 0: its script has stayed at the first call, so with other scripts it yields
-    ask (turn scripts 2) ∷ ask (turn scripts 2) ∷ ask (turn mended 2) ∷
+    ask (turn scripts 2) ∷ ask (turn scripts 2) ∷ ask (turn yield-first 2) ∷
     -- 0: a step back; 0: thread 1's second call, since its first was made as a move; 0: a step back
     ask back ∷ ask (turn scripts 1) ∷ ask back ∷
     -- 2: a refused move
     ask (move (move-of 9 0 0)) ∷
     -- 16, 5, 16: a journal of other moves; 10, 10: one that is short
-    ask-with strange back ∷ ask-with strange (move (move-of 1 0 0)) ∷ ask-with strange (three scripts 5 200) ∷
+    ask-with mismatched back ∷ ask-with mismatched (move (move-of 1 0 0)) ∷ ask-with mismatched (three scripts 5 200) ∷
     ask-with [] (move (move-of 1 3 1)) ∷ ask-with [] (three [] 0 0) ∷
     -- 6, 19, 10: another journal that replays
-    ask-with same (turn scripts 2) ∷ ask-with same (three [] 3 144) ∷ ask-with same (three scripts 3 143) ∷
-    -- a call of another kind
-    passes ∷
+    ask-with replaying (turn scripts 2) ∷ ask-with replaying (three [] 3 144) ∷ ask-with replaying (three scripts 3 143) ∷
+    -- calls of other kinds: one, and a picture of the all-zero state over the journal, refused
+    passes ∷ writes zero-state ∷
     -- 19, 19, 19: scripts that are short or not in order
     ask (turn [] 1) ∷ ask (turn too-many 9) ∷ ask (three no-action 3 144) ∷
     -- 10, 10: a class refused as a whole, since a buffer is short
@@ -109,15 +112,15 @@ numbers =
 
 -- what the sample computes with: to unfold this is to unfold all that its line names
 computing : Unit {0}
-unfolding after-moves bytes asked answers numbers-of Fits config-cause start tabulate those run next act line cause action-of replays all-but-last accepted moves same-state same-list each script-ok scripts-ok progress turn-move class-moves class-answers
+unfolding zero-state state-ok broken-rule fields-ok after-moves bytes asked replies numbers-of Fits config-cause start tabulate those run next act line cause action-of replays all-but-last accepted moves same-state same-list each script-ok scripts-ok progress turn-move class-moves class-answers
 computing = tt
 
-sample-answers : numbers-of (answers two 12000 [] (asked sample)) ≡ numbers
+sample-answers : numbers-of (replies two 12000 [] (asked sample)) ≡ numbers
 unfolding computing
 sample-answers = refl
 
-sample-buffers : (answers-buffer 22 (answers two 12000 [] (asked sample)) ≡ 0 ∷ 6 ∷ 0 ∷ 99 ∷ 99 ∷ []) ×
-    (answers-buffer 20 (answers two 12000 [] (asked sample)) ≡ 99 ∷ 99 ∷ [])
+sample-buffers : (answers-buffer 22 (replies two 12000 [] (asked sample)) ≡ 0 ∷ 6 ∷ 0 ∷ 99 ∷ 99 ∷ []) ×
+    (answers-buffer 20 (replies two 12000 [] (asked sample)) ≡ 99 ∷ 99 ∷ [])
 unfolding computing
 sample-buffers = (refl, refl)
 
@@ -135,24 +138,24 @@ refused n e = omega arith
 sample-fits : Fits two 12000 [] sample
 unfolding computing
 sample-fits =
-    (tt, (tt, (tt, (tt, (tt, (tt, (tt, (tt, (tt, (refused 15, (refused 4, (refused 15, (refused 9, (refused 9, (refused 5, (refused 18, (refused 9, (tt, (tt, (tt, (tt, (tt, (tt, (tt, (tt, (tt, (tt, (tt, tt))))))))))))))))))))))))))))
+    (tt, (tt, (tt, (tt, (tt, (tt, (tt, (tt, (tt, (refused 15, (refused 4, (refused 15, (refused 9, (refused 9, (refused 5, (refused 18, (refused 9, (refused 14, (tt, (tt, (tt, (tt, (tt, (tt, (tt, (tt, (tt, (tt, (tt, tt)))))))))))))))))))))))))))))
 
 -- it is a session of the contracts, and its calls are answered so
 pub sample-belongs : IsSession contract (opening contract begins long) sample
 sample-belongs = is-session begins long begins-accepted sample (subst (λ (n : ℕ). Fits two n [] sample) (sym long-length) sample-fits)
 
 pub sample-agrees : Agrees contract begins long sample
-sample-agrees = claim .sessions begins long begins-accepted sample sample-belongs
+sample-agrees = demand3 .sessions begins long begins-accepted sample sample-belongs
 
-told-is : told contract (opening contract begins long) sample ≡ answers two 12000 [] (asked sample)
-told-is = sample-agrees .answered ∙ ap (λ (n : ℕ). answers two n [] (asked sample)) long-length
+responses-are : responses contract (opening contract begins long) sample ≡ replies two 12000 [] (asked sample)
+responses-are = sample-agrees .answered ∙ ap (λ (n : ℕ). replies two n [] (asked sample)) long-length
 
-pub sample-told : numbers-of (told contract (opening contract begins long) sample) ≡ numbers
-sample-told = ap numbers-of told-is ∙ sample-answers
+pub sample-responses : numbers-of (responses contract (opening contract begins long) sample) ≡ numbers
+sample-responses = ap numbers-of responses-are ∙ sample-answers
 
 -- the accepted class has put its turns' answers in front of the buffer's later bytes; one that is refused as a whole leaves the buffer
-pub sample-filled : answers-buffer 22 (told contract (opening contract begins long) sample) ≡ 0 ∷ 6 ∷ 0 ∷ 99 ∷ 99 ∷ []
-sample-filled = ap (answers-buffer 22) told-is ∙ sample-buffers .0
+pub sample-filled : answers-buffer 22 (responses contract (opening contract begins long) sample) ≡ 0 ∷ 6 ∷ 0 ∷ 99 ∷ 99 ∷ []
+sample-filled = ap (answers-buffer 22) responses-are ∙ sample-buffers .0
 
-pub sample-kept : answers-buffer 20 (told contract (opening contract begins long) sample) ≡ 99 ∷ 99 ∷ []
-sample-kept = ap (answers-buffer 20) told-is ∙ sample-buffers .1
+pub sample-kept : answers-buffer 20 (responses contract (opening contract begins long) sample) ≡ 99 ∷ 99 ∷ []
+sample-kept = ap (answers-buffer 20) responses-are ∙ sample-buffers .1

@@ -7,7 +7,7 @@ use Rattle.reference.specs.Lists.{tabulate, those, find, sum, is}
 use Rattle.reference.specs.Start.{start}
 use Rattle.reference.specs.Step.{Move, next, run, act, action-of, line}
 use Rattle.reference.specs.Cause.{cause, accepted}
-use Rattle.reference.specs.Snapshot.{behind, thread-entry, concat, picture}
+use Rattle.reference.specs.Picture.{behind, thread-entry, concat, picture}
 use Rattle.reference.specs.Script.{progress, turn-move, class-moves, class-answers}
 use Rattle.claim.specs.Worked.{HandOff, SameRecord}
 

@@ -12,7 +12,8 @@ use Rattle.reference.specs.Safe.{Safe}
 use Rattle.reference.specs.Script.{class-moves, class-answers, class-pictures}
 use Rattle.reference.specs.Session.{Opening, own, move, turn, class}
 use Rattle.turns.specs.Contract.{turn-made}
-use Rattle.claim.specs.Demand.{Implementation, Outcome, Event, asks, hand, IsSession, opening, in-hand, config, listed}
+use Rattle.claim.specs.Implementation.{Implementation, Outcome}
+use Rattle.claim.specs.Demand3.{Event, asks, held-after, IsSession, opening, held-at-end, config, listed}
 
 -- an accepted turn leaves what its move by itself leaves: any record, any journal
 abbrev pub TurnMoves : Implementation → Type 0
@@ -28,7 +29,7 @@ turns x (p ∷ ps) = asks (record { request = turn x p; lent = own }) ∷ turns 
 module _ (impl : Implementation) (o : Opening) (j : List ℕ) (es : List Event) (x ps answers pictures : List ℕ) where
   -- what the class leaves
   abbrev pub done : Outcome
-  done = impl .call (in-hand impl o j es .session) (in-hand impl o j es .journal) (class x ps answers pictures)
+  done = impl .call (held-at-end impl o j es .session) (held-at-end impl o j es .journal) (class x ps answers pictures)
 
   -- the moves that stood before it, and those that stand after it: with them the ones that its accepted turns made
   abbrev pub before : List Move
@@ -44,7 +45,7 @@ module _ (impl : Implementation) (o : Opening) (j : List ℕ) (es : List Event) 
     pub buffers : done .buffers ≡
         with-front answers (class-answers (config impl o j es) x before ps) ∷ with-front pictures (class-pictures (config impl o j es) x before ps) ∷ []
     -- record and journal are those that turn after turn leaves,
-    pub turn-by-turn : record { session = done .session; journal = done .journal } ≡ hand impl (in-hand impl o j es) (turns x ps)
+    pub turn-by-turn : record { session = done .session; journal = done .journal } ≡ held-after impl (held-at-end impl o j es) (turns x ps)
     -- and the laws hold
     pub safe : Safe (config impl o j es) standing
 

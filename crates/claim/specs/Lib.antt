@@ -1,4 +1,6 @@
--- The claim about a session's whole list of calls, and that a class is the moves that it makes.
-pub mod Demand
+-- What is claimed of the entry points together: demands 2 and 3, and that a class is the moves that it makes.
+pub mod Implementation
+pub mod Demand2
+pub mod Demand3
 pub mod Class
 pub mod Worked

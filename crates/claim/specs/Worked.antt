@@ -10,7 +10,7 @@ use Rattle.reference.specs.State.{State, Mutex, no-token, mutex-at}
 use Rattle.reference.specs.Start.{Config, start}
 use Rattle.reference.specs.Step.{Move, move-of, run}
 use Rattle.reference.specs.Cause.{accepted}
-use Rattle.reference.specs.Snapshot.{picture}
+use Rattle.reference.specs.Picture.{picture}
 use Rattle.reference.specs.Script.{progress, turned, class-moves, class-answers}
 
 -- start 2 2 1 2

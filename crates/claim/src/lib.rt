@@ -1,1 +1,1 @@
-// The claim about a session's whole list of calls, over the contracts of all entry points: theory only.
+// What is claimed of the entry points together, over their contracts: theory only.

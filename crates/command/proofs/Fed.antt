@@ -11,8 +11,8 @@ use lib.Seq.{take-suc-set}
 use borrow.Author.Tests.{lt-ltb, le-ltb, ltb-true, ltb-false}
 use Rattle.command.specs.declared.Command.the-variants.{Unknown}
 use Rattle.command.specs.declared.line.Line.{Line}
-use Rattle.command.specs.Command.{command-of}
-use Rattle.command.specs.Line.{empty-line, fed, command-in, feed-all}
+use Rattle.command.specs.model.Reading.{command-of}
+use Rattle.command.specs.model.Line.{empty-line, fed, command-in, feed-all}
 use Rattle.command.proofs.Lines.{long-unknown}
 
 -- a line that holds these bytes, of which there are at most 64
@@ -72,21 +72,3 @@ pub feed-snoc : (l : List ℕ) (b : ℕ) (line : Line) → feed-all (l ++ (b ∷
 unfolding feed-all
 feed-snoc [] b line = refl
 feed-snoc (x ∷ l) b line = feed-snoc l b (fed line x)
-
--- a line has a byte exactly where it was fed one
-more-len : (l : List ℕ) (line : Line) → line .len ≤ feed-all l line .len
-unfolding feed-all
-more-len [] line = omega arith
-more-len (b ∷ l) line = go (more-len l (fed line b)) (ltb (line .len) 64) refl
-  where
-    go : fed line b .len ≤ feed-all l (fed line b) .len → (t : Bool) → ltb (line .len) 64 ≡ t → line .len ≤ feed-all l (fed line b) .len
-    go h true e = let f : fed line b .len ≡ line .len + 1 = rw e in omega arith
-    go h false e = let f : fed line b .len ≡ line .len = rw e in omega arith
-
-pub some-len : (b : ℕ) (l : List ℕ) → 0 < feed-all (b ∷ l) empty-line .len
-unfolding feed-all
-some-len b l = let h : 1 ≤ feed-all l (fed empty-line b) .len = more-len l (fed empty-line b) in h
-
-pub none-len : feed-all [] empty-line .len ≡ 0
-unfolding feed-all
-none-len = refl

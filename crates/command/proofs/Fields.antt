@@ -8,8 +8,9 @@ use lib.Dec.{eqb, leb, ltb}
 use lib.ListN.{length, getD, drop}
 use borrow.Author.Tests.{lt-ltb, le-ltb, le-leb, ne-eqb, ltb-true, ltb-false, leb-true, eqb-true, eqb-false}
 use Rattle.command.specs.declared.reading.Field.{Field}
-use Rattle.command.specs.Reading.{is-digit, no-field, fit, field-of, field-at}
-use Rattle.command.specs.Command.{decimal, field}
+use Rattle.command.specs.model.Reading.{is-digit, no-field, fit, field-of, field-at}
+use Rattle.command.specs.Printing.{decimal}
+use Rattle.command.specs.Command.{field}
 use Rattle.command.proofs.Laws.{both}
 
 -- ---- the digits of one, two and three places
@@ -76,9 +77,9 @@ data Shape (space a b c : ℕ) : Field → Type 0 where
   three : space ≡ 32 → 48 < a → a ≤ 57 → 48 ≤ b → b ≤ 57 → 48 ≤ c → c ≤ 57 → 10 * (10 * (a - 48) + (b - 48)) + (c - 48) ≤ 255
       → Shape space a b c (record { value = 10 * (10 * (a - 48) + (b - 48)) + (c - 48); width = 4 })
 
-shape : (space a b c : ℕ) → Shape space a b c (field-of space a b c)
+shape-of : (space a b c : ℕ) → Shape space a b c (field-of space a b c)
 unfolding field-of
-shape space a b c = at-space (eqb space 32 && is-digit a) refl
+shape-of space a b c = at-space (eqb space 32 && is-digit a) refl
   where
     digit : (d : ℕ) → is-digit d ≡ true → (48 ≤ d) × (d ≤ 57)
     digit d e = let p = both (leb 48 d) (leb d 57) e in (leb-true 48 d (p .0), leb-true d 57 (p .1))
@@ -148,17 +149,17 @@ pub record Found (l : List ℕ) (f : Field) : Type 0 where
   pub wide : f .width ≡ length (field (f .value))
   pub small : f .value ≤ 255
 
-found : (l : List ℕ) (f : Field) (bytes : List ℕ) → decimal (f .value) ≡ bytes → getD l 0 0 ≡ 32 → l ≡ getD l 0 0 ∷ (bytes ++ drop (f .width) l) → f .width ≡ length (32 ∷ bytes) → f .value ≤ 255 → Found l f
+found-from : (l : List ℕ) (f : Field) (bytes : List ℕ) → decimal (f .value) ≡ bytes → getD l 0 0 ≡ 32 → l ≡ getD l 0 0 ∷ (bytes ++ drop (f .width) l) → f .width ≡ length (32 ∷ bytes) → f .value ≤ 255 → Found l f
 unfolding field
-found l f bytes d s e w v =
+found-from l f bytes d s e w v =
     record { front = e ∙ ap₂ (λ (x : ℕ) (y : List ℕ). x ∷ (y ++ drop (f .width) l)) s (sym d); wide = rw d w; small = v }
 
 pub field-only : (l : List ℕ) → 0 < field-at l .width → Found l (field-at l)
 unfolding field-at
-field-only l h = go (field-at l) (shape (getD l 0 0) (getD l 1 0) (getD l 2 0) (getD l 3 0)) h
+field-only l h = go (field-at l) (shape-of (getD l 0 0) (getD l 1 0) (getD l 2 0) (getD l 3 0)) h
   where
     go : (f : Field) → Shape (getD l 0 0) (getD l 1 0) (getD l 2 0) (getD l 3 0) f → 0 < f .width → Found l f
     go f none k = let w : ⊥ = omega arith in absurd w
-    go f (one s x y) k = found l _ _ (read-one _ x y) s (front-two l (omega arith) (omega arith)) refl (omega arith)
-    go f (two s x y z w) k = found l _ _ (read-two _ _ x y z w) s (front-three l (omega arith) (omega arith) (omega arith)) refl (omega arith)
-    go f (three s x y z w u v r) k = found l _ _ (read-three _ _ _ x y z w u v) s (front-four l (omega arith) (omega arith) (omega arith) (omega arith)) refl r
+    go f (one s x y) k = found-from l _ _ (read-one _ x y) s (front-two l (omega arith) (omega arith)) refl (omega arith)
+    go f (two s x y z w) k = found-from l _ _ (read-two _ _ x y z w) s (front-three l (omega arith) (omega arith) (omega arith)) refl (omega arith)
+    go f (three s x y z w u v r) k = found-from l _ _ (read-three _ _ _ x y z w u v) s (front-four l (omega arith) (omega arith) (omega arith) (omega arith)) refl r

@@ -1,4 +1,4 @@
--- Exactly the spelled lines are commands (Lines, Fed); laws that the functions' proofs cite (the others).
+-- Exactly the spelled lines are commands (Grammar); laws that the functions' proofs cite (the others).
 pub mod Laws
 pub mod Read
 pub mod Put
@@ -6,3 +6,4 @@ pub mod Sized
 pub mod Fields
 pub mod Lines
 pub mod Fed
+pub mod Grammar

@@ -1,4 +1,4 @@
--- Exactly the spelled lines are commands: `spelled-read` and `read-spelled`. Both are about `command-of`, which `command::reading::command_of` computes.
+-- Exactly the spelled lines are read as commands.
 use Prim.Native.Nat.{ℕ, _+_, _/_, _%_, _≤_, _<_}
 use native.Mathlib.Omega.{arith}
 use mathlib.Core.Bool.{Bool, true, false, _&&_, cond, false≢true}
@@ -13,8 +13,9 @@ use Rattle.command.specs.declared.Command.{Command}
 use Rattle.command.specs.declared.Command.the-variants.{Start, StartWith, Move, Back, Show, Unknown}
 use Rattle.command.specs.declared.reading.Field.{Field}
 use Rattle.command.specs.declared.reading.Three.{Three}
-use Rattle.command.specs.Reading.{is-digit, no-three, field-at, three-from, three-at, starts, start-from, start-of, move-from, move-of}
-use Rattle.command.specs.Command.{decimal, field, start-word, move-word, back-word, show-word, spell, Known, command-of}
+use Rattle.command.specs.model.Reading.{is-digit, no-three, field-at, three-from, three-at, starts, start-from, start-line, move-from, move-line, command-of}
+use Rattle.command.specs.Printing.{decimal}
+use Rattle.command.specs.Command.{field, start-word, move-word, back-word, show-word, spell, Known}
 use Rattle.command.proofs.Laws.{both}
 use Rattle.command.proofs.Fields.{field-spelled, field-only}
 
@@ -37,7 +38,7 @@ three-put : (l : List ℕ) (x y z : Field) → field-at l ≡ x → field-at (dr
 unfolding three-at
 three-put l x y z ex ey ez = rw (ex, ey, ez)
 
-pub three-spelled : (a b c : ℕ) (rest : List ℕ) → a ≤ 255 → b ≤ 255 → c ≤ 255 → is-digit (getD rest 0 0) ≡ false
+three-spelled : (a b c : ℕ) (rest : List ℕ) → a ≤ 255 → b ≤ 255 → c ≤ 255 → is-digit (getD rest 0 0) ≡ false
     → three-at (field a ++ (field b ++ (field c ++ rest))) ≡ record { first = a; second = b; third = c; width = length (field a) + length (field b) + length (field c) }
 unfolding three-from
 three-spelled a b c rest ha hb hc e =
@@ -97,8 +98,8 @@ starts-front (x ∷ w) (y ∷ l) e =
 
 -- ---- a command that is spelled is read
 
-start-spelled : (p t m b : ℕ) → p ≤ 255 → t ≤ 255 → m ≤ 255 → b ≤ 255 → start-of (spell (Start p t m b)) ≡ Start p t m b
-unfolding spell start-of start-from
+start-spelled : (p t m b : ℕ) → p ≤ 255 → t ≤ 255 → m ≤ 255 → b ≤ 255 → start-line (spell (Start p t m b)) ≡ Start p t m b
+unfolding spell start-line start-from
 start-spelled p t m b hp ht hm hb =
     let rest = field t ++ (field m ++ field b) in
     let f : field-at (field p ++ rest) ≡ record { value = p; width = length (field p) } = field-spelled p rest hp (no-digit t (field m ++ field b)) in
@@ -108,8 +109,8 @@ start-spelled p t m b hp ht hm hb =
     let n : 5 + length (field p) + (length (field t) + length (field m) + length (field b)) ≡ length (start-word ++ (field p ++ rest)) = simp length-append (omega arith) in
     rw (f, d, g, lt-ltb 0 (length (field p)) (field-positive p), lt-ltb 0 (length (field t) + length (field m) + length (field b)) (omega (arith, field-positive t)), eq-eqb _ _ n)
 
-with-spelled : (p t m b c : ℕ) → p ≤ 255 → t ≤ 255 → m ≤ 255 → b ≤ 255 → c ≤ 255 → start-of (spell (StartWith p t m b c)) ≡ StartWith p t m b c
-unfolding spell start-of start-from
+with-spelled : (p t m b c : ℕ) → p ≤ 255 → t ≤ 255 → m ≤ 255 → b ≤ 255 → c ≤ 255 → start-line (spell (StartWith p t m b c)) ≡ StartWith p t m b c
+unfolding spell start-line start-from
 with-spelled p t m b c hp ht hm hb hc =
     let rest = field t ++ (field m ++ (field b ++ field c)) in
     let l = start-word ++ (field p ++ rest) in
@@ -138,23 +139,23 @@ with-spelled p t m b c hp ht hm hb hc =
       eq-eqb _ _ n,
     )
 
-move-spelled : (p a o : ℕ) → p ≤ 255 → a ≤ 255 → o ≤ 255 → move-of (spell (Move p a o)) ≡ Move p a o
-unfolding spell move-of move-from
+move-spelled : (p a o : ℕ) → p ≤ 255 → a ≤ 255 → o ≤ 255 → move-line (spell (Move p a o)) ≡ Move p a o
+unfolding spell move-line move-from
 move-spelled p a o hp ha ho =
     let g : three-at (field p ++ (field a ++ field o)) ≡ record { first = p; second = a; third = o; width = length (field p) + length (field a) + length (field o) } =
     ap (λ (r : List ℕ). three-at (field p ++ (field a ++ r))) (sym (append-nil (field o))) ∙ three-spelled p a o [] hp ha ho refl in
     let n : 4 + (length (field p) + length (field a) + length (field o)) ≡ length (move-word ++ (field p ++ (field a ++ field o))) = simp length-append (omega arith) in
     rw (g, lt-ltb 0 (length (field p) + length (field a) + length (field o)) (omega (arith, field-positive p)), eq-eqb _ _ n)
 
-starts-start : (p t m b : ℕ) → command-of (spell (Start p t m b)) ≡ start-of (spell (Start p t m b))
+starts-start : (p t m b : ℕ) → command-of (spell (Start p t m b)) ≡ start-line (spell (Start p t m b))
 unfolding command-of spell starts
 starts-start p t m b = refl
 
-starts-with : (p t m b c : ℕ) → command-of (spell (StartWith p t m b c)) ≡ start-of (spell (StartWith p t m b c))
+starts-with : (p t m b c : ℕ) → command-of (spell (StartWith p t m b c)) ≡ start-line (spell (StartWith p t m b c))
 unfolding command-of spell starts
 starts-with p t m b c = refl
 
-starts-move : (p a o : ℕ) → command-of (spell (Move p a o)) ≡ move-of (spell (Move p a o))
+starts-move : (p a o : ℕ) → command-of (spell (Move p a o)) ≡ move-line (spell (Move p a o))
 unfolding command-of spell starts
 starts-move p a o = refl
 
@@ -170,12 +171,12 @@ spelled-read Unknown h = absurd h
 
 -- ---- a command that is read is spelled
 
-pub record Written (l : List ℕ) (c : Command) : Type 0 where
+record Written (l : List ℕ) (c : Command) : Type 0 where
   pub line : l ≡ spell c
   pub known : Known c
 
-start-only : (l : List ℕ) → starts start-word l ≡ true → (start-of l ≡ Unknown) ⊎ Written l (start-of l)
-unfolding start-of start-from spell
+start-only : (l : List ℕ) → starts start-word l ≡ true → (start-line l ≡ Unknown) ⊎ Written l (start-line l)
+unfolding start-line start-from spell
 start-only l s = go (ltb 0 (p .width) && ltb 0 (r .width) && eqb (5 + p .width + r .width) (length l)) refl
   where
     p : Field
@@ -231,8 +232,8 @@ start-only l s = go (ltb 0 (p .width) && ltb 0 (r .width) && eqb (5 + p .width +
           known = (fp .small, fr .small .0, fr .small .1, fr .small .2);
         })
 
-move-only : (l : List ℕ) → starts move-word l ≡ true → (move-of l ≡ Unknown) ⊎ Written l (move-of l)
-unfolding move-of move-from spell
+move-only : (l : List ℕ) → starts move-word l ≡ true → (move-line l ≡ Unknown) ⊎ Written l (move-line l)
+unfolding move-line move-from spell
 move-only l s = go (ltb 0 (r .width) && eqb (4 + r .width) (length l)) refl
   where
     r : Three
@@ -280,23 +281,31 @@ read l = at-start (starts start-word l) refl
     at-length false e = inl refl
 
     at-move : (t : Bool) → starts move-word l ≡ t
-        → (cond t (move-of l) (cond (eqb (length l) 4) short Unknown) ≡ Unknown) ⊎ Written l (cond t (move-of l) (cond (eqb (length l) 4) short Unknown))
+        → (cond t (move-line l) (cond (eqb (length l) 4) short Unknown) ≡ Unknown) ⊎ Written l (cond t (move-line l) (cond (eqb (length l) 4) short Unknown))
     at-move true e = move-only l e
     at-move false e = at-length (eqb (length l) 4) refl
 
     at-start : (t : Bool) → starts start-word l ≡ t
-        → (cond t (start-of l) (cond (starts move-word l) (move-of l) (cond (eqb (length l) 4) short Unknown)) ≡ Unknown)
-        ⊎ Written l (cond t (start-of l) (cond (starts move-word l) (move-of l) (cond (eqb (length l) 4) short Unknown)))
+        → (cond t (start-line l) (cond (starts move-word l) (move-line l) (cond (eqb (length l) 4) short Unknown)) ≡ Unknown)
+        ⊎ Written l (cond t (start-line l) (cond (starts move-word l) (move-line l) (cond (eqb (length l) 4) short Unknown)))
     at-start true e = start-only l e
     at-start false e = at-move (starts move-word l) refl
 
 -- a line that is read as a command is that command's spelling
-pub read-spelled : (l : List ℕ) (c : Command) → command-of l ≡ c → (c ≡ Unknown → ⊥) → Written l c
-read-spelled l c e n = go (read l)
+pub read-spelled : (l : List ℕ) (c : Command) → command-of l ≡ c → Known c → l ≡ spell c
+read-spelled l c e h = go (read l)
   where
-    go : (command-of l ≡ Unknown) ⊎ Written l (command-of l) → Written l c
-    go (inl u) = absurd (n (sym e ∙ u))
-    go (inr w) = subst (λ (x : Command). Written l x) e w
+    go : (command-of l ≡ Unknown) ⊎ Written l (command-of l) → l ≡ spell c
+    go (inl u) = absurd (subst Known (sym e ∙ u) h)
+    go (inr w) = w .line ∙ ap spell e
+
+-- and it has bytes for numbers
+pub read-known : (l : List ℕ) → (command-of l ≡ Unknown → ⊥) → Known (command-of l)
+read-known l n = go (read l)
+  where
+    go : (command-of l ≡ Unknown) ⊎ Written l (command-of l) → Known (command-of l)
+    go (inl u) = absurd (n u)
+    go (inr w) = w .known
 
 -- ---- no command is longer than 25 bytes
 

@@ -8,7 +8,8 @@ use mathlib.Core.List.{List, [], _∷_}
 use lib.Dec.{leb}
 use lib.ListN.{length, getD, set}
 use lib.Seq.{paste, paste-suc, take-length}
-use Rattle.command.specs.Printing.{hex-digit, hex, put-into, put-end}
+use Rattle.command.specs.Printing.{hex-digit, hex}
+use Rattle.command.specs.model.Put.{put-into, put-end}
 
 pub put-room : (d s : List ℕ) (at n : ℕ) → n ≡ length s → leb (at + n) (length d) ≡ true → paste d at s n ≡ put-into d at s
 unfolding put-into
@@ -37,7 +38,7 @@ unfolding hex
 hex-length [] = refl
 hex-length (b ∷ l) = omega (arith, hex-length l)
 
-pub hex-high : (l : List ℕ) (i : ℕ) → i < length l → getD (hex l) (2 * i) 0 ≡ hex-digit (getD l i 0 / 16)
+hex-high : (l : List ℕ) (i : ℕ) → i < length l → getD (hex l) (2 * i) 0 ≡ hex-digit (getD l i 0 / 16)
 unfolding hex
 hex-high [] i h = let w : ⊥ = omega arith in absurd w
 hex-high (b ∷ l) zero h = refl
@@ -46,7 +47,7 @@ hex-high (b ∷ l) (suc i) h = ap (λ (k : ℕ). getD (hex (b ∷ l)) k 0) (two-
     two-more : (k : ℕ) → 2 * suc k ≡ suc (suc (2 * k))
     two-more k = omega arith
 
-pub hex-low : (l : List ℕ) (i : ℕ) → i < length l → getD (hex l) (2 * i + 1) 0 ≡ hex-digit (getD l i 0 % 16)
+hex-low : (l : List ℕ) (i : ℕ) → i < length l → getD (hex l) (2 * i + 1) 0 ≡ hex-digit (getD l i 0 % 16)
 unfolding hex
 hex-low [] i h = let w : ⊥ = omega arith in absurd w
 hex-low (b ∷ l) zero h = refl

@@ -1,4 +1,4 @@
--- What the readers answer, put together as the definitions have it.
+-- What the readers return, put together as the definitions have it.
 use Prim.Native.Nat.{ℕ, _+_, _≤_, _<_}
 use native.Mathlib.Numerals.{add-one}
 use native.Mathlib.Omega.{arith}
@@ -10,7 +10,7 @@ use lib.Seq.{drop-drop, drop-cons}
 use borrow.Author.Tests.{eq-eqb, ne-eqb}
 use Rattle.command.specs.declared.reading.Field.{Field}
 use Rattle.command.specs.declared.reading.Three.{Three}
-use Rattle.command.specs.Reading.{field-at, three-from, three-at, starts, start-from, start-of, move-from, move-of}
+use Rattle.command.specs.model.Reading.{field-at, three-from, three-at, starts, start-from, start-line, move-from, move-line}
 
 pub three-read : (s : List ℕ) (at : ℕ) (x y z : Field) → x ≡ field-at (drop at s) → y ≡ field-at (drop (at + x .width) s) → z ≡ field-at (drop (at + x .width + y .width) s)
     → three-from x y z ≡ three-at (drop at s)
@@ -22,12 +22,12 @@ three-read s at x y z ex ey ez =
     rw (← ex, ← y′, ← z′)
 
 pub start-read : (s : List ℕ) (p : Field) (r : Three) (c : Field) → p ≡ field-at (drop 5 s) → r ≡ three-at (drop (5 + p .width) s) → c ≡ field-at (drop (5 + p .width + r .width) s)
-    → start-from p r c (length s) ≡ start-of s
-unfolding start-of
+    → start-from p r c (length s) ≡ start-line s
+unfolding start-line
 start-read s p r c ep er ec = rw (← ep, ← er, ← ec)
 
-pub move-read : (s : List ℕ) (r : Three) → r ≡ three-at (drop 4 s) → move-from r (length s) ≡ move-of s
-unfolding move-of
+pub move-read : (s : List ℕ) (r : Three) → r ≡ three-at (drop 4 s) → move-from r (length s) ≡ move-line s
+unfolding move-line
 move-read s r er = rw (← er)
 
 -- ---- a word at the front, compared byte by byte

@@ -1,21 +1,9 @@
--- The program's lines, document 01, "The program": how each command is written, in bytes, and which command a line is.
--- proofs/Lines shows that a line is read as a command exactly where it is that command's spelling, so `spell` says it all.
--- Assumes nothing.
-use Prim.Native.Nat.{ℕ, _+_, _/_, _%_, _≤_}
-use mathlib.Core.Bool.{cond}
+-- How each of the program's commands is written, in bytes. Grammar says that exactly these lines are commands.
+use Prim.Native.Nat.{ℕ, _≤_}
 use mathlib.Core.List.{List, [], _∷_, _++_}
-use lib.Dec.{eqb, ltb}
-use lib.ListN.{length}
 use Rattle.command.specs.declared.Command.{Command}
 use Rattle.command.specs.declared.Command.the-variants.{Start, StartWith, Move, Back, Show, Unknown}
-use Rattle.command.specs.Reading.{starts, start-of, move-of}
-
--- the decimal digits of a number below 1,000, without leading zeros; 48 is the digit 0
-unfoldable pub decimal : ℕ → List ℕ
-decimal n =
-    cond (ltb n 10) ((48 + n) ∷ [])
-    (cond (ltb n 100) ((48 + n / 10) ∷ (48 + n % 10) ∷ [])
-    ((48 + n / 100) ∷ (48 + n / 10 % 10) ∷ (48 + n % 10) ∷ []))
+use Rattle.command.specs.Printing.{decimal}
 
 -- `start`, `move`, `back`, `show`
 abbrev pub start-word : List ℕ
@@ -51,10 +39,3 @@ Known (Move p a o) = (p ≤ 255) × (a ≤ 255) × (o ≤ 255)
 Known Back = Unit {0}
 Known Show = Unit {0}
 Known Unknown = ⊥
-
--- the command that a line is
-unfoldable pub command-of : List ℕ → Command
-command-of l =
-    cond (starts start-word l) (start-of l)
-    (cond (starts move-word l) (move-of l)
-    (cond (eqb (length l) 4) (cond (starts back-word l) Back (cond (starts show-word l) Show Unknown)) Unknown))

@@ -1,5 +1,5 @@
--- Lines in, answers out, as bytes.
+-- Lines in, responses out, as bytes.
 pub mod Command
-pub mod Line
+pub mod Grammar
 pub mod Printing
-pub mod Reading
+pub mod model

@@ -1,9 +1,15 @@
--- The bytes of an answer, and what a buffer holds after they are put into it.
+-- Numbers and bytes as text.
 use Prim.Native.Nat.{ℕ, _+_, _/_, _%_}
 use mathlib.Core.Bool.{cond}
-use mathlib.Core.List.{List, [], _∷_, _++_}
-use lib.Dec.{leb, ltb}
-use lib.ListN.{length, take, drop}
+use mathlib.Core.List.{List, [], _∷_}
+use lib.Dec.{ltb}
+
+-- the decimal digits of a number below 1,000, without leading zeros; 48 is the digit 0
+unfoldable pub decimal : ℕ → List ℕ
+decimal n =
+    cond (ltb n 10) ((48 + n) ∷ [])
+    (cond (ltb n 100) ((48 + n / 10) ∷ (48 + n % 10) ∷ [])
+    ((48 + n / 100) ∷ (48 + n / 10 % 10) ∷ (48 + n % 10) ∷ []))
 
 -- a lower-case hexadecimal digit: 0 to 9, then a to f
 abbrev pub hex-digit : ℕ → ℕ
@@ -13,11 +19,3 @@ hex-digit d = cond (ltb d 10) (48 + d) (87 + d)
 unfoldable pub hex : List ℕ → List ℕ
 hex [] = []
 hex (b ∷ l) = hex-digit (b / 16) ∷ hex-digit (b % 16) ∷ hex l
-
--- the buffer with the bytes from `at` on replaced, where they fit
-unfoldable pub put-into : List ℕ → ℕ → List ℕ → List ℕ
-put-into out at bytes = cond (leb (at + length bytes) (length out)) (take at out ++ bytes ++ drop (at + length bytes) out) out
-
--- the position after them, or the same where they do not fit
-unfoldable pub put-end : List ℕ → ℕ → List ℕ → ℕ
-put-end out at bytes = cond (leb (at + length bytes) (length out)) (at + length bytes) at

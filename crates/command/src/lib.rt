@@ -1,4 +1,4 @@
-// The program's lines: which command a line is, and the bytes of an answer.
+// The program's lines: which command a line is, and the bytes of a response.
 pub mod line;
 pub mod printing;
 pub mod reading;

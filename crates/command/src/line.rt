@@ -1,6 +1,6 @@
 // A line, fed byte by byte, so that it can span reads.
 ghost use mathlib.Core.Path.{_≡_};
-ghost use Rattle.command.specs.Line.{empty-line, fed, command-in};
+ghost use Rattle.command.specs.model.Line.{empty-line, fed, command-in};
 use crate::Command;
 use crate::reading::command_of;
 

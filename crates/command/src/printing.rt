@@ -1,9 +1,9 @@
-// The bytes of an answer, put into a lent buffer at a position. What does not fit is not written, and the same position comes back.
+// The bytes of a response, put into a lent buffer at a position. What does not fit is not written, and the same position comes back.
 ghost use mathlib.Core.Path.{_≡_};
 ghost use Prim.Native.Nat.{_+_, _%_};
 ghost use lib.Dec.{leb};
-ghost use Rattle.command.specs.Command.{decimal};
-ghost use Rattle.command.specs.Printing.{hex-digit, hex, put-into, put-end};
+ghost use Rattle.command.specs.Printing.{decimal, hex-digit, hex};
+ghost use Rattle.command.specs.model.Put.{put-into, put-end};
 
 fn fits(len: usize, at: usize, count: usize) -> bool
     ensures { λ r. ⌜ r ≡ leb (at + count) len ⌝ }

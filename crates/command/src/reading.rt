@@ -2,8 +2,7 @@
 ghost use Prim.Native.Nat.{_-_};
 ghost use mathlib.Core.Path.{_≡_};
 ghost use lib.ListN.{getD, drop};
-ghost use Rattle.command.specs.Reading.{is-digit, fit, field-of, field-at, three-at, starts, start-of, move-of};
-ghost use Rattle.command.specs.Command.{command-of};
+ghost use Rattle.command.specs.model.Reading.{is-digit, fit, field-of, field-at, three-at, starts, start-line, move-line, command-of};
 use crate::Command;
 
 // A space and a number: the number, and how many bytes the two take; a width of 0 says that they are not there.
@@ -136,7 +135,7 @@ fn starts(word: &[u8], s: &[u8]) -> bool
 
 // A line that begins with `start`: four numbers, or these and a fifth.
 fn start(s: &[u8]) -> Command
-    ensures { λ r. ⌜ r ≡ start-of (now (s .entry)) ⌝ }
+    ensures { λ r. ⌜ r ≡ start-line (now (s .entry)) ⌝ }
 {
     let p = field_at(s, 5);
     let after = 5 + p.width as u16;
@@ -155,7 +154,7 @@ fn start(s: &[u8]) -> Command
 
 // A line that begins with `move`.
 fn step(s: &[u8]) -> Command
-    ensures { λ r. ⌜ r ≡ move-of (now (s .entry)) ⌝ }
+    ensures { λ r. ⌜ r ≡ move-line (now (s .entry)) ⌝ }
 {
     let numbers = three_at(s, 4);
     let end = 4 + numbers.width as usize;

@@ -7,20 +7,18 @@ use mathlib.Core.Path.{_≡_, refl, sym, ap, _∙_}
 use native.Mathlib.Omega.{arith}
 use lib.Dec.{ltb, eqb}
 use lib.ListN.{length}
-use Rattle.snapshot.specs.declared.answer.Read.{Read}
-use Rattle.snapshot.specs.declared.answer.Ahead.{Ahead}
-use Rattle.snapshot.specs.declared.answer.Ahead.the-variants.{Turns, NotWaiting, Refused}
-use Rattle.snapshot.specs.Snapshot.{byte, fields, picture-length, zero-bytes-ok, read-refusal, read}
-use Rattle.snapshot.specs.Turns.{waits-for, turns-at, turns-ahead, ahead}
-use Rattle.snapshot.proofs.WriteBack.{Bytes}
-use Rattle.snapshot.proofs.RoundTrip.{read-keeps}
+use Rattle.picture.specs.declared.answer.Read.{Read}
+use Rattle.picture.specs.declared.answer.Ahead.{Ahead}
+use Rattle.picture.specs.declared.answer.Ahead.the-variants.{Turns, NotWaiting, Refused}
+use Rattle.picture.specs.Picture.{Bytes, byte, fields, picture-length, zero-bytes-ok, read-refusal, read}
+use Rattle.picture.specs.Turns.{waits-for, turns-ahead, ahead}
+use Rattle.picture.proofs.RoundTrip.{read-keeps}
 use Rattle.state.specs.declared.State.{State as Record}
 use Rattle.state.specs.Association.{decode}
 use Rattle.state.specs.Rules.{sizes-ok, fields-ok, chains-ok, holders-ok, broken-rule, state-ok}
 use Rattle.reference.specs.Refusal.{refuse}
 use Rattle.reference.specs.Lists.{if-zero, in-range}
-use Rattle.reference.specs.State.{mutex-at}
-use Rattle.exports.specs.Turns.{told, ahead-refusal, ahead-answer}
+use Rattle.exports.specs.Turns.{number-of, ahead-refusal, ahead-answer}
 
 -- ---- reading
 
@@ -74,9 +72,9 @@ module _ (b : List ℕ) (w : Bytes b) (r : Read) (is : r ≡ read b) (right : r 
   unfolding ahead ahead-refusal
   ahead-is = rw (kept, number, threads)
 
-  pub told-is : (a : Ahead) → a ≡ ahead (r .state) k → told a ≡ ahead-answer b k
+  pub number-of-is : (a : Ahead) → a ≡ ahead (r .state) k → number-of a ≡ ahead-answer b k
   unfolding ahead-answer
-  told-is a e = ap told (e ∙ ap (λ (x : Record). ahead x k) state-is ∙ ahead-is)
+  number-of-is a e = ap number-of (e ∙ ap (λ (x : Record). ahead x k) state-is ∙ ahead-is)
 
   -- only 3 is left to refuse it
   pub refused-most : (n : ℕ) → Refused n ≡ ahead (r .state) k → n ≤ 3

@@ -7,7 +7,7 @@ use mathlib.Core.Path.{_≡_, refl, sym, ap, _∙_}
 use lib.ListN.{length, drop}
 use Rattle.exports.specs.declared.replay.Replayed.{Replayed}
 use Rattle.exports.specs.Replay.{whole, replay-refusal, replay-place, replay-buffer}
-use Rattle.exports.specs.Model.{Replays}
+use Rattle.exports.specs.model.Replayed.{Replays}
 use Rattle.session.specs.declared.Answer.{Answer}
 use Rattle.session.specs.Contract.{started}
 use Rattle.state.specs.declared.State.{State as Record}
@@ -15,12 +15,12 @@ use Rattle.state.specs.Association.{encode, decode}
 use Rattle.state.specs.Rules.{state-ok}
 use Rattle.shown.proofs.Decode.{decode-encode, encode-ok}
 use Rattle.shown.proofs.Unique.{encode-sized}
-use Rattle.snapshot.specs.Snapshot.{picture-length, write-refusal, written}
-use Rattle.snapshot.proofs.RoundTrip.{picture-size}
+use Rattle.picture.specs.Picture.{picture-length, write-refusal, written}
+use Rattle.picture.proofs.RoundTrip.{picture-size}
 use Rattle.reference.specs.Lists.{if-zero}
 use Rattle.reference.specs.State.{State}
 use Rattle.reference.specs.Start.{Config, config-cause}
-use Rattle.reference.specs.Snapshot.{picture}
+use Rattle.reference.specs.Picture.{picture}
 
 -- number, place, and the buffer afterwards
 pub record Answers (c : Config) (moves lent : List ℕ) (n k : ℕ) (after : List ℕ) : Type 0 where

@@ -7,7 +7,7 @@ use mathlib.Core.Path.{_≡_, refl, sym, ap, _∙_}
 use lib.Dec.{eqb}
 use lib.ListN.{length}
 use borrow.Author.Tests.{ne-eqb}
-use Rattle.exports.specs.Class.{class-number, class-told, class-shown}
+use Rattle.exports.specs.Class.{class-number, class-answered, class-pictured}
 use Rattle.session.specs.declared.Answer.{Answer}
 use Rattle.state.specs.declared.Session.{Session}
 use Rattle.reference.specs.Refusal.{refuse}
@@ -25,8 +25,8 @@ use Rattle.turns.specs.Contract.{scripted, class-refusal, classed, answers-afte
 -- number, and both buffers afterwards
 pub record Classed (c : Config) (x ps answers pictures : List ℕ) (n : ℕ) (answers′ pictures′ : List ℕ) : Type 0 where
   pub number : n ≡ class-number c x ps answers pictures
-  pub told : answers′ ≡ class-told c x ps answers pictures
-  pub shown : pictures′ ≡ class-shown c x ps answers pictures
+  pub numbers : answers′ ≡ class-answered c x ps answers pictures
+  pub pictured : pictures′ ≡ class-pictured c x ps answers pictures
 
 module _ (c : Config) (x : List ℕ) (a : Answer) (e : a ≡ scripted c x) where
   cause-is : a .refusal ≡ or-later (config-cause c) (scripts-cause (c .T) x)
@@ -36,11 +36,11 @@ module _ (c : Config) (x : List ℕ) (a : Answer) (e : a ≡ scripted c x) where
   module _ (ps answers pictures : List ℕ) where
     -- 1 or 19
     pub class-unbegun : (a .refusal ≡ 0 → ⊥) → Classed c x ps answers pictures (a .refusal) answers pictures
-    unfolding class-told class-shown class-number
+    unfolding class-answered class-pictured class-number
     class-unbegun h =
         let is : a .refusal ≡ class-number c x ps answers pictures = cause-is ∙ first (config-cause c) (scripts-cause (c .T) x) _ (λ z. h (cause-is ∙ z)) in
         let z = ne-eqb (a .refusal) 0 h in
-        record { number = is; told = rw (← is, z); shown = rw (← is, z) }
+        record { number = is; numbers = rw (← is, z); pictured = rw (← is, z) }
       where
         first : (n m k : ℕ) → (or-later n m ≡ 0 → ⊥) → or-later n m ≡ or-later n (or-later m k)
         first zero zero k z = absurd (z refl)
@@ -81,10 +81,10 @@ module _ (c : Config) (x : List ℕ) (a : Answer) (e : a ≡ scripted c x) where
 
       pub class-done : (d : Answer) (answers′ pictures′ : List ℕ) → d ≡ classed r j x ps answers pictures → answers′ ≡ answers-after r j x ps answers pictures →
           pictures′ ≡ pictures-after r j x ps answers pictures → Classed c x ps answers pictures (d .refusal) answers′ pictures′
-      unfolding classed answers-after pictures-after class-told class-shown
-      class-done d answers′ pictures′ is told shown =
+      unfolding classed answers-after pictures-after class-answered class-pictured
+      class-done d answers′ pictures′ is numbers pictured =
           record {
             number = ap (λ (b : Answer). b .refusal) is ∙ number-is;
-            told = told ∙ (λ i. choose (eqb (number-is i) 0) (with-front answers (class-answers (table-is i) x (moves-are i) ps)) answers);
-            shown = shown ∙ (λ i. choose (eqb (number-is i) 0) (with-front pictures (class-pictures (table-is i) x (moves-are i) ps)) pictures);
+            numbers = numbers ∙ (λ i. choose (eqb (number-is i) 0) (with-front answers (class-answers (table-is i) x (moves-are i) ps)) answers);
+            pictured = pictured ∙ (λ i. choose (eqb (number-is i) 0) (with-front pictures (class-pictures (table-is i) x (moves-are i) ps)) pictures);
           }

@@ -8,14 +8,14 @@ use native.Mathlib.Numerals.{add-one}
 use lib.ListN.{length, getD, drop, length-drop}
 use lib.Seq.{drop-cons}
 use Rattle.exports.specs.Replay.{Replay, found, replay, whole}
-use Rattle.exports.specs.Model.{Replays}
+use Rattle.exports.specs.model.Replayed.{Replays}
 use Rattle.state.specs.declared.State.{State as Record}
 use Rattle.state.specs.Association.{encode}
-use Rattle.state.specs.Model.{start-record}
+use Rattle.state.specs.model.Access.{start-record}
 use Rattle.shown.proofs.Reached.{reached-allowed}
 use Rattle.step.specs.declared.Moved.{Moved}
 use Rattle.step.specs.declared.Run.{Run}
-use Rattle.step.specs.Model.{moved-of, moved-at, run-of, counted-of}
+use Rattle.step.specs.model.Moves.{moved-of, moved-at, run-of, counted-of}
 use Rattle.step.proofs.InPlace.{Ends, run-ends}
 use Rattle.reference.specs.Lists.{if-zero}
 use Rattle.reference.specs.State.{State}

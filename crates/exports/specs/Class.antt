@@ -17,9 +17,9 @@ module _ (c : Config) (x ps answers pictures : List ℕ) where
   class-number = or-later (config-cause c) (or-later (scripts-cause (c .T) x) (refuse (lacks-room c (length ps) answers pictures) too-short 0))
 
   -- each turn's answer, followed by the buffer's later bytes; refused, the buffer as it was
-  unfoldable pub class-told : List ℕ
-  class-told = choose (eqb class-number 0) (with-front answers (class-answers c x [] ps)) answers
+  unfoldable pub class-answered : List ℕ
+  class-answered = choose (eqb class-number 0) (with-front answers (class-answers c x [] ps)) answers
 
   -- the picture after each turn, accepted or not, followed by the buffer's later bytes; refused, the buffer as it was
-  unfoldable pub class-shown : List ℕ
-  class-shown = choose (eqb class-number 0) (with-front pictures (class-pictures c x [] ps)) pictures
+  unfoldable pub class-pictured : List ℕ
+  class-pictured = choose (eqb class-number 0) (with-front pictures (class-pictures c x [] ps)) pictures

@@ -2,4 +2,4 @@
 pub mod Replay
 pub mod Turns
 pub mod Class
-pub mod Model
+pub mod model

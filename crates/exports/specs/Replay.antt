@@ -10,7 +10,7 @@ use Rattle.reference.specs.State.{State}
 use Rattle.reference.specs.Start.{Config, config-cause, start}
 use Rattle.reference.specs.Step.{move-of, next}
 use Rattle.reference.specs.Cause.{cause}
-use Rattle.reference.specs.Snapshot.{picture}
+use Rattle.reference.specs.Picture.{picture}
 use Rattle.session.specs.Contract.{or-later}
 
 -- refusal: the number of the first refused move, place: which move it is, counted from 1; both 0 where none is. state: before that move, or after all.

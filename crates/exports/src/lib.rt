@@ -2,15 +2,15 @@
 ghost use mathlib.Core.Path.{_≡_};
 ghost use lib.ListN.{length};
 ghost use Rattle.session.specs.Contract.{table};
-ghost use Rattle.snapshot.specs.Snapshot.{read-refusal};
+ghost use Rattle.picture.specs.Picture.{read-refusal};
 ghost use Rattle.exports.specs.Replay.{replay-refusal, replay-place, replay-buffer};
 ghost use Rattle.exports.specs.Turns.{ahead-answer};
-ghost use Rattle.exports.specs.Class.{class-number, class-told, class-shown};
+ghost use Rattle.exports.specs.Class.{class-number, class-answered, class-pictured};
 
 mod replay;
 
 use crate::replay::replay;
-use snapshot::answer::Ahead;
+use picture::answer::Ahead;
 
 // Turns ahead: a thread that does not wait, and what a refusal's number is added to.
 const NOT_WAITING: u8 = 100;
@@ -66,7 +66,7 @@ pub extern "C" fn humdayeg_replay_with(
         return refused;
     }
     let state = found.state;
-    snapshot::write(state, picture)
+    picture::write(state, picture)
 }
 
 // The number that reading a picture gets: 11, 12, 13 or 14, or 0.
@@ -74,7 +74,7 @@ pub extern "C" fn humdayeg_replay_with(
 pub extern "C" fn humdayeg_read(picture: &[u8]) -> u8
     ensures { λ r. ⌜ r ≡ read-refusal (now (picture .entry)) ⌝ }
 {
-    let found = snapshot::read(picture);
+    let found = picture::read(picture);
     found.refusal
 }
 
@@ -83,13 +83,13 @@ pub extern "C" fn humdayeg_read(picture: &[u8]) -> u8
 pub extern "C" fn humdayeg_ahead(picture: &[u8], thread: u8) -> u8
     ensures { λ r. ⌜ r ≡ ahead-answer (now (picture .entry)) thread ⌝ }
 {
-    let found = snapshot::read(picture);
+    let found = picture::read(picture);
     let bad = found.refusal;
     if bad != 0 {
         return REFUSED + bad;
     }
     let state = found.state;
-    let answer = snapshot::ahead(state, thread);
+    let answer = picture::ahead(state, thread);
     match answer {
         Ahead::Turns(n) => n,
         Ahead::NotWaiting => NOT_WAITING,
@@ -111,8 +111,8 @@ pub extern "C" fn humdayeg_class(
     pictures: &mut [u8],
 ) -> u8
     ensures number { λ r. ⌜ r ≡ class-number (table p t m b 0) (now (scripts .entry)) (now (turns .entry)) (now (answers .entry)) (now (pictures .entry)) ⌝ }
-    ensures answers { λ r. ⌜ now (answers .exit) ≡ class-told (table p t m b 0) (now (scripts .entry)) (now (turns .entry)) (now (answers .entry)) (now (pictures .entry)) ⌝ }
-    ensures pictures { λ r. ⌜ now (pictures .exit) ≡ class-shown (table p t m b 0) (now (scripts .entry)) (now (turns .entry)) (now (answers .entry)) (now (pictures .entry)) ⌝ }
+    ensures answers { λ r. ⌜ now (answers .exit) ≡ class-answered (table p t m b 0) (now (scripts .entry)) (now (turns .entry)) (now (answers .entry)) (now (pictures .entry)) ⌝ }
+    ensures pictures { λ r. ⌜ now (pictures .exit) ≡ class-pictured (table p t m b 0) (now (scripts .entry)) (now (turns .entry)) (now (answers .entry)) (now (pictures .entry)) ⌝ }
 {
     humdayeg_class_with(p, t, m, b, 0, scripts, turns, answers, pictures)
 }
@@ -131,8 +131,8 @@ pub extern "C" fn humdayeg_class_with(
     pictures: &mut [u8],
 ) -> u8
     ensures number { λ r. ⌜ r ≡ class-number (table p t m b stealing) (now (scripts .entry)) (now (turns .entry)) (now (answers .entry)) (now (pictures .entry)) ⌝ }
-    ensures answers { λ r. ⌜ now (answers .exit) ≡ class-told (table p t m b stealing) (now (scripts .entry)) (now (turns .entry)) (now (answers .entry)) (now (pictures .entry)) ⌝ }
-    ensures pictures { λ r. ⌜ now (pictures .exit) ≡ class-shown (table p t m b stealing) (now (scripts .entry)) (now (turns .entry)) (now (answers .entry)) (now (pictures .entry)) ⌝ }
+    ensures answers { λ r. ⌜ now (answers .exit) ≡ class-answered (table p t m b stealing) (now (scripts .entry)) (now (turns .entry)) (now (answers .entry)) (now (pictures .entry)) ⌝ }
+    ensures pictures { λ r. ⌜ now (pictures .exit) ≡ class-pictured (table p t m b stealing) (now (scripts .entry)) (now (turns .entry)) (now (answers .entry)) (now (pictures .entry)) ⌝ }
 {
     let begun = turns::start(p, t, m, b, stealing, scripts);
     let bad = begun.refusal;

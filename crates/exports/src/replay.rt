@@ -2,12 +2,10 @@
 ghost use mathlib.Core.Path.{_≡_};
 ghost use Rattle.reference.specs.Start.{config-cause};
 ghost use Rattle.session.specs.Contract.{table};
-ghost use Rattle.exports.specs.Model.{Replays};
+ghost use Rattle.exports.specs.model.Replayed.{Replays};
 use state::State;
+use state::refusal::Refusal;
 use step::moves::run;
-
-// A move without its operand.
-const BAD_OPERAND: u8 = 3;
 
 // The number of the first refused move and its place, counted from 1, or 0 and 0; and the state before it, or after all.
 pub(crate) struct Replayed {
@@ -35,7 +33,7 @@ pub(crate) fn replay(p: u8, t: u8, m: u8, b: u8, stealing: u8, moves: &[u8]) -> 
     }
     if moves.len() % 3 != 0 {
         return Replayed {
-            refusal: BAD_OPERAND,
+            refusal: Refusal::BAD_OPERAND,
             place: next,
             state,
         };

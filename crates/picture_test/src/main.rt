@@ -13,7 +13,7 @@ fn show(bytes: &[u8]) {
     word(b"picture ");
     hex(bytes);
     word(b"\n");
-    let got = snapshot::read(bytes);
+    let got = picture::read(bytes);
     let state = got.state;
     writing::writes(state, bytes.len());
     writing::turns(state);

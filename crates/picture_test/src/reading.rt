@@ -6,7 +6,7 @@ use crate::print::word;
 // A space and the answer of the first n bytes, where the line has so many.
 fn read(line: &[u8], n: usize) {
     if n <= line.len() {
-        let got = snapshot::read(&line[..n]);
+        let got = picture::read(&line[..n]);
         word(b" ");
         number(got.refusal);
     }

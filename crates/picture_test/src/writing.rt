@@ -2,12 +2,12 @@
 use crate::print::hex;
 use crate::print::number;
 use crate::print::word;
-use snapshot::answer::Ahead;
+use picture::answer::Ahead;
 use state::State;
 
 // Into a buffer: the answer, and the buffer's bytes then.
 fn write(state: State, buffer: &mut [u8]) {
-    let refusal = snapshot::write(state, buffer);
+    let refusal = picture::write(state, buffer);
     word(b" ");
     number(refusal);
     word(b" ");
@@ -39,7 +39,7 @@ pub(crate) fn writes(state: State, n: usize) {
 
 // A number for a thread that waits, - for one that does not, r before a refusal.
 fn turns_of(state: State, thread: u8) {
-    let ahead = snapshot::ahead(state, thread);
+    let ahead = picture::ahead(state, thread);
     match ahead {
         Ahead::Turns(n) => {
             word(b" ");

@@ -1,14 +1,13 @@
 -- No state with the invariant meets 15 at a step.
 -- Assumes nothing.
-use Prim.Native.Nat.{ℕ, zero, suc, _+_, _≤_, _<_}
-use mathlib.Core.Bool.{Bool, true, false, _&&_}
+use Prim.Native.Nat.{ℕ, suc, _+_, _≤_, _<_}
+use mathlib.Core.Bool.{false, _&&_}
 use mathlib.Core.List.{List, [], _∷_}
-use mathlib.Core.Path.{_≡_, refl, ap, sym, _∙_}
+use mathlib.Core.Path.{_≡_, refl, ap}
 use native.Mathlib.Omega.{arith}
-use lib.Dec.{leb}
 use lib.ListN.{length}
 use borrow.Author.Tests.{lt-leb, ne-eqb}
-use Rattle.reference.specs.State.{State, Mutex, Processor, Line, App, CI2, CI3, L1, L3, L4, L6, L7, L8, L9, L10, TL1, GT1, GT3, TL3, U1, H2, H3, H5, H6, H8, Y1, Y2, Y3, C2, nobody, free-mutex, processor-at, mutex-at}
+use Rattle.reference.specs.State.{State, Mutex, Processor, Line, App, CI2, CI3, L1, L3, L4, L6, L7, L8, L9, L10, TL1, GT1, GT3, TL3, U1, H2, H3, H5, H6, H8, Y1, Y2, Y3, C2, nobody, free-mutex, processor-at}
 use Rattle.reference.specs.Step.{View, Action, go, lock, trylock, unlock, yield, exit, create, Move, view, line, act, does, next, action-of}
 use Rattle.reference.specs.Cause.{cause, is-go}
 use Rattle.reference.specs.Break.{is-empty, line-breaks, step-breaks}
@@ -25,7 +24,7 @@ not-empty [] h = absurd (omega arith)
 not-empty (x ∷ q) h = refl
 
 -- what each line asks for, so that it breaks nothing
-pub line-keeps : (t : ℕ) (l : Line) (v : View) → (l ≡ U1 → 1 ≤ v .mutex .count) → (l ≡ L9 → 1 ≤ length (v .mutex .queue)) → (l ≡ L1 → v .mutex .count ≤ t) →
+line-keeps : (t : ℕ) (l : Line) (v : View) → (l ≡ U1 → 1 ≤ v .mutex .count) → (l ≡ L9 → 1 ≤ length (v .mutex .queue)) → (l ≡ L1 → v .mutex .count ≤ t) →
     (l ≡ TL3 → v .mutex .count ≤ t) → (l ≡ H5 → v .proc .sequence < 4000) → line-breaks t l v ≡ false
 line-keeps t App v a b c d e = refl
 line-keeps t CI2 v a b c d e = refl
@@ -87,7 +86,7 @@ module _ (s : State) (g : Good s) (p : ℕ) (rp : In (s .P) p) (h : Good (does s
   sequence-after =
       omega (
         arith,
-        h .table p rp .sequence,
+        h .table p rp .registers .sequence,
         h .applied,
         ap (λ (x : Processor). x .sequence) (at-put-same (s .processors) p (line l v .proc) nobody (omega (arith, g .processors))),
       )
@@ -98,10 +97,10 @@ module _ (s : State) (g : Good s) (p : ℕ) (rp : In (s .P) p) (h : Good (does s
   on-mutex : (n : Line) → ((r : Processor) → Table (s .P) (s .T) (s .M) (s .applied) n r → 1 ≤ r .mutex) → l ≡ n → 1 ≤ processor-at s p .mutex
   on-mutex n c e = c (processor-at s p) (rw e at (g .table p rp))
 
-  pub go-keeps : line-breaks (s .T) l v ≡ false
+  go-keeps : line-breaks (s .T) l v ≡ false
   go-keeps =
       line-keeps (s .T) l v (count-at-U1 s g p rp) (queue-at-L9 s g p rp)
-      (λ e. counted L1 count-L1 (on-mutex L1 (λ r t. t .mutex-low) e) e) (λ e. counted TL3 count-TL3 (on-mutex TL3 (λ r t. t .mutex-low) e) e)
+      (λ e. counted L1 count-L1 (on-mutex L1 (λ r t. t .registers .mutex-low) e) e) (λ e. counted TL3 count-TL3 (on-mutex TL3 (λ r t. t .registers .mutex-low) e) e)
       (λ e. omega (arith, sequence-after, ap (λ (k : Line). line k v .proc .sequence) e, sequence-H5 v))
 
 pub never-breaks : (s : State) (a : Move) → Good s → cause s a ≡ 0 → step-breaks s a ≡ false

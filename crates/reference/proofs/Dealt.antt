@@ -14,7 +14,7 @@ use Rattle.reference.specs.Lists.{sum, occurrences, around, choose, tabu
 use Rattle.reference.specs.State.{queues}
 use Rattle.reference.specs.Start.{Config, itself, first-queue}
 use Rattle.reference.specs.Safe.{In}
-use Rattle.reference.specs.Snapshot.{first, behind}
+use Rattle.reference.specs.Picture.{first, behind}
 use Rattle.reference.proofs.Sums.{is-same, is-other, around-in, around-self}
 use Rattle.reference.proofs.Start.{Ranges}
 use Rattle.reference.proofs.Invariant.{some-queue}
@@ -22,11 +22,11 @@ use Rattle.reference.proofs.Invariant.{some-queue}
 -- ---- a ring
 
 -- r places on is the same place,
-pub around-on : (r k : ℕ) → 1 ≤ k → around r (k + r) ≡ around r k
+around-on : (r k : ℕ) → 1 ≤ k → around r (k + r) ≡ around r k
 around-on r k h = let e : k + r - 1 ≡ k - 1 + r = omega arith in rw e (ap suc (add-mod-right (k - 1) r))
 
 -- and none between is
-pub around-between : (r k d : ℕ) → 1 ≤ k → 1 ≤ d → d < r → around r (k + d) ≢ around r k
+around-between : (r k d : ℕ) → 1 ≤ k → 1 ≤ d → d < r → around r (k + d) ≢ around r k
 around-between r k d h low high z =
     let e : k + d - 1 ≡ k - 1 + d = omega arith in
     let m : ℕ = (k - 1) % r in

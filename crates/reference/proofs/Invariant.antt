@@ -1,7 +1,7 @@
 -- The invariant of every state that is reached from a start, and that a move without a cause keeps it.
 -- Assumes nothing.
 use Prim.Native.Nat.{ℕ, zero, suc, _+_, _-_, _*_, _≤_, _<_}
-use mathlib.Core.Bool.{Bool, true, false}
+use mathlib.Core.Bool.{Bool, true, false, not}
 use mathlib.Core.List.{List, [], _∷_}
 use mathlib.Core.Logic.{_≢_}
 use mathlib.Core.Path.{_≡_, refl, ap, sym, subst, _∙_}
@@ -10,7 +10,7 @@ use native.Mathlib.Decide.{ℕ-discrete}
 use native.Mathlib.Nat.{mul-one, mul-zero}
 use lib.ListN.{length}
 use Rattle.reference.specs.Lists.{at, put, sum, is, occurrences}
-use Rattle.reference.specs.State.{Token, Processor, Mutex, Life, new, live, terminated, State, Line, App, row, queues, nobody, free-mutex, processor-at, mutex-at, life-at, same-token}
+use Rattle.reference.specs.State.{Token, Processor, Mutex, Life, new, live, terminated, State, Line, App, row, queues, nobody, free-mutex, processor-at, mutex-at, life-at, same-token, same-life}
 use Rattle.reference.specs.Step.{View, Action, go, lock, trylock, unlock, yield, exit, create, act, target, works-on, view, put-back, does, created-by, ended-by, Move, action-of, next, run}
 use Rattle.reference.specs.Cause.{is-go, operand-fits, cause, accepted}
 use Rattle.reference.specs.Safe.{In, one-if, held}
@@ -29,13 +29,11 @@ at-line s p = processor-at s p .position
 
 -- 0 for a live thread, 1 for one that is new or terminated
 abbrev pub gone : Life → ℕ
-gone new = 1
-gone live = 0
-gone terminated = 1
+gone l = one-if (not (same-life l live))
 
 -- what thread i's creation and thread j's end make of who is gone
-abbrev Turns : State → ℕ → ℕ → Type 0
-Turns s i j = (k : ℕ) → In (s .T) k → gone (at (put (put (s .lives) i live) j terminated) k live) + is k i ≡ gone (life-at s k) + is k j
+abbrev pub LivesMove : State → ℕ → ℕ → Type 0
+LivesMove s i j = (k : ℕ) → In (s .T) k → gone (at (put (put (s .lives) i live) j terminated) k live) + is k i ≡ gone (life-at s k) + is k j
 
 -- the sum over the processors on mutex k
 abbrev pub on : State → (Duty → ℕ) → ℕ → ℕ
@@ -79,6 +77,24 @@ pub record Good (s : State) : Type 0 where
   -- while somebody waits, a token will be found
   pub watched : (m : ℕ) → In (s .M) m → 1 ≤ some (mutex-at s m .token .processor) → 1 ≤ length (mutex-at s m .queue) → Watched s m (mutex-at s m .token)
   pub claims : (p : ℕ) → In (s .P) p → Claims s (processor-at s p)
+
+-- ---- a thread is created, or ended
+
+pub created-one : (s : State) (o : ℕ) → length (s .lives) ≡ s .T → life-at s o ≡ new → LivesMove s o 0
+created-one s o long e k r =
+    at-put (λ (k : ℕ) (x : Life). gone x + is k o ≡ gone (life-at s k) + is k 0) (s .lives) o k live live (omega arith)
+    (λ i. omega (arith, is-same o, is-other o 0 (omega arith), ap gone e))
+    (λ n. omega (arith, is-other k o n, is-other k 0 (omega arith)))
+
+-- a processor's current thread is held there, so it is live
+pub ended-one : (s : State) (p : ℕ) → length (s .lives) ≡ s .T → length (s .processors) ≡ s .P → In (s .P) p →
+    (In (s .T) (processor-at s p .current) → held s (processor-at s p .current) + gone (life-at s (processor-at s p .current)) ≡ 1) → LivesMove s 0 (processor-at s p .current)
+ended-one s p long many rp census k r =
+    let c : ℕ = processor-at s p .current in
+    at-put (λ (k : ℕ) (x : Life). gone x + is k 0 ≡ gone (life-at s k) + is k c) (s .lives) c k terminated live (omega arith)
+    (λ i.
+    omega (arith, is-same c, is-other c 0 (omega arith), census (omega arith), sum-at (in-registers c) (s .processors) p nobody (omega arith)))
+    (λ n. omega (arith, is-other k c n, is-other k 0 (omega arith)))
 
 -- ---- arithmetic
 
@@ -126,7 +142,7 @@ works-in s g p r = around-in (length (s .ready)) _ (omega (arith, g .queues, som
 module _ (s : State) (g : Good s) (p m : ℕ) (rp : In (s .P) p) (early : s .applied < 4000) (rm : m ≤ s .M) (i j : ℕ) (v′ : View)
     (d : (k : ℕ) → 1 ≤ k → Done (s .P) (s .T) (s .M) (s .applied) (is k) (processor-at s p .position) m i j (view s p m) v′)
     (t : Handled (s .P) (s .T) (s .M) (s .applied) (is 1) (processor-at s p .position) m (view s p m) v′)
-    (b : Turns s i j) where
+    (b : LivesMove s i j) where
   abbrev s′ : State
   s′ = put-back s p m i j v′
 
@@ -371,12 +387,12 @@ module _ (s : State) (g : Good s) (p : ℕ) (rp : In (s .P) p) (early : s .appli
         self-high = rp .1;
         early = early;
         f-zero = is-other k 0 (omega arith);
-        f-current = off (s .T) (row (at-line s p) .current) (processor-at s p .current) k r (g .table p rp .current-high);
-        f-transit = off (s .T) (row (at-line s p) .transit) (processor-at s p .transit) k r (g .table p rp .transit-high);
+        f-current = off (s .T) (row (at-line s p) .current) (processor-at s p .current) k r (g .table p rp .registers .current-high);
+        f-transit = off (s .T) (row (at-line s p) .transit) (processor-at s p .transit) k r (g .table p rp .registers .transit-high);
       }
 
   step-good : (a : Action) (o : ℕ) → from a (at-line s p) ≡ at-line s p → target a (processor-at s p .mutex) o ≤ s .M → Fits (target a (processor-at s p .mutex) o) →
-      Allowed (s .M) (s .T) a o (view s p (target a (processor-at s p .mutex) o)) → Turns s (created-by a o) (ended-by a (processor-at s p .current)) → Good (does s p a o)
+      Allowed (s .M) (s .T) a o (view s p (target a (processor-at s p .mutex) o)) → LivesMove s (created-by a o) (ended-by a (processor-at s p .current)) → Good (does s p a o)
   step-good a o e rm f c b =
       let m = target a (processor-at s p .mutex) o in
       let v = view s p m in
@@ -399,7 +415,7 @@ module _ (s : State) (g : Good s) (p : ℕ) (rp : In (s .P) p) (early : s .appli
       )
 
   pub go-fit : Fits (processor-at s p .mutex)
-  go-fit = fit (processor-at s p .mutex) (g .table p rp .mutex-most) (λ c. go-weighs) (g .table p rp .responsible) (g .holds p rp) (g .claims p rp)
+  go-fit = fit (processor-at s p .mutex) (g .table p rp .registers .mutex-most) (λ c. go-weighs) (g .table p rp .responsible) (g .holds p rp) (g .claims p rp)
 
   -- ---- the calls, at App
 
@@ -407,7 +423,7 @@ module _ (s : State) (g : Good s) (p : ℕ) (rp : In (s .P) p) (early : s .appli
   serves-none x r l e = rw e (omega arith)
 
   call-good : at-line s p ≡ App → (a : Action) (o : ℕ) → target a (processor-at s p .mutex) o ≤ s .M →
-      Allowed (s .M) (s .T) a o (view s p (target a (processor-at s p .mutex) o)) → Turns s (created-by a o) (ended-by a (processor-at s p .current)) → Good (does s p a o)
+      Allowed (s .M) (s .T) a o (view s p (target a (processor-at s p .mutex) o)) → LivesMove s (created-by a o) (ended-by a (processor-at s p .current)) → Good (does s p a o)
   call-good q a o rm c b =
       let m = target a (processor-at s p .mutex) o in
       let r : duty (at-line s p) .responsible ≡ 0 = ap (λ (l : Line). duty l .responsible) q in
@@ -415,33 +431,14 @@ module _ (s : State) (g : Good s) (p : ℕ) (rp : In (s .P) p) (early : s .appli
       step-good a o (choose-by (λ l. l ≡ at-line s p) (is-go a) (λ x. refl) (λ x. sym q)) rm
       (fit m rm (λ x. omega arith) (omega arith) (λ x. absurd (omega arith)) (serves-none (mutex-at s m) (processor-at s p) (at-line s p) q)) c b
 
-  created-one : (o : ℕ) → life-at s o ≡ new → Turns s o 0
-  created-one o e k r =
-      at-put (λ (k : ℕ) (x : Life). gone x + is k o ≡ gone (life-at s k) + is k 0) (s .lives) o k live live (omega (arith, g .lives))
-      (λ i. omega (arith, is-same o, is-other o 0 (omega arith), ap gone e))
-      (λ n. omega (arith, is-other k o n, is-other k 0 (omega arith)))
-
-  ended-one : Turns s 0 (processor-at s p .current)
-  ended-one k r =
-      at-put (λ (k : ℕ) (x : Life). gone x + is k 0 ≡ gone (life-at s k) + is k (processor-at s p .current)) (s .lives) (processor-at s p .current) k terminated live (omega (arith, g .lives))
-      (λ i.
-      omega (
-        arith,
-        is-same (processor-at s p .current),
-        is-other (processor-at s p .current) 0 (omega arith),
-        g .census (processor-at s p .current) (omega (arith, g .lives)),
-        sum-at (in-registers (processor-at s p .current)) (s .processors) p nobody (omega (arith, g .processors)),
-      ))
-      (λ n. omega (arith, is-other k (processor-at s p .current) n, is-other k 0 (omega arith)))
-
   does-good : (a : Action) (o : ℕ) → operand-fits s a o ≡ true → Here s p a o → Good (does s p a o)
-  does-good go o c h = step-good go o refl (g .table p rp .mutex-most) go-fit tt (λ k r. refl)
+  does-good go o c h = step-good go o refl (g .table p rp .registers .mutex-most) go-fit tt (λ k r. refl)
   does-good lock o c h = let r = range-true 1 (s .M) o c in call-good (h .call refl) lock o (r .1) r (λ k r. refl)
   does-good trylock o c h = let r = range-true 1 (s .M) o c in call-good (h .call refl) trylock o (r .1) r (λ k r. refl)
   does-good unlock o c h = let r = range-true 1 (s .M) o c in call-good (h .call refl) unlock o (r .1) (r, h .owner refl) (λ k r. refl)
-  does-good yield o c h = call-good (h .call refl) yield o (g .table p rp .mutex-most) tt (λ k r. refl)
-  does-good exit o c h = call-good (h .call refl) exit o (g .table p rp .mutex-most) tt ended-one
-  does-good create o c h = call-good (h .call refl) create o (g .table p rp .mutex-most) (range-true 1 (s .T) o c) (created-one o (h .unborn refl))
+  does-good yield o c h = call-good (h .call refl) yield o (g .table p rp .registers .mutex-most) tt (λ k r. refl)
+  does-good exit o c h = call-good (h .call refl) exit o (g .table p rp .registers .mutex-most) tt (ended-one s p (g .lives) (g .processors) rp (g .census _))
+  does-good create o c h = call-good (h .call refl) create o (g .table p rp .registers .mutex-most) (range-true 1 (s .T) o c) (created-one s o (g .lives) (h .unborn refl))
 
 pub next-good : (s : State) (a : Move) → Good s → cause s a ≡ 0 → Good (next s a)
 unfolding next

@@ -1,4 +1,4 @@
--- The laws that the course book prints, and what else is known of a state that has the invariant or is reached.
+-- The laws of safety, and what else is known of a state that has the invariant or is reached.
 -- Assumes nothing.
 use Prim.Native.Nat.{ℕ, zero, suc, _+_, _≤_}
 use mathlib.Core.Bool.{true, false}
@@ -14,7 +14,7 @@ use Rattle.reference.specs.Start.{Config, config-cause, first-life, star
 use Rattle.reference.specs.Step.{Move, next, run}
 use Rattle.reference.specs.Cause.{accepted}
 use Rattle.reference.specs.History.{owns}
-use Rattle.reference.specs.Safe.{In, one-if, end, Owns, unborn, ended, UnderWay, Safe}
+use Rattle.reference.specs.Safe.{In, one-if, end, Owns, unborn, ended, UnderWay, Always, Safe}
 use Rattle.reference.proofs.Sums.{is-other, some, some-le, some-pos, sum-some, choose-by}
 use Rattle.reference.proofs.Local.{Duty, duty}
 use Rattle.reference.proofs.Invariant.{Good, reached, weighs, on, times-zero, gone}
@@ -24,12 +24,12 @@ use Rattle.reference.proofs.Lives.{life-history, is-new, is-over}
 
 -- ---- of a run
 
-pub sizes : (ms : List Move) (s : State) → (run s ms .P ≡ s .P) × (run s ms .T ≡ s .T) × (run s ms .M ≡ s .M) × (run s ms .stealing ≡ s .stealing)
+sizes : (ms : List Move) (s : State) → (run s ms .P ≡ s .P) × (run s ms .T ≡ s .T) × (run s ms .M ≡ s .M) × (run s ms .stealing ≡ s .stealing)
 unfolding run next
 sizes [] s = (refl, refl, refl, refl)
 sizes (a ∷ rest) s = sizes rest (next s a)
 
-pub applied-run : (ms : List Move) (s : State) → run s ms .applied ≡ s .applied + length ms
+applied-run : (ms : List Move) (s : State) → run s ms .applied ≡ s .applied + length ms
 unfolding run next
 applied-run [] s = omega arith
 applied-run (a ∷ rest) s = omega (arith, applied-run rest (next s a))
@@ -56,10 +56,10 @@ module _ (s : State) (g : Good s) where
   -- no sequence number is above the moves that stand
   pub sequence-bound : (p : ℕ) → p ≤ s .P → processor-at s p .sequence ≤ s .applied
   sequence-bound zero r = omega arith
-  sequence-bound (suc p) r = g .table (suc p) (omega arith) .sequence
+  sequence-bound (suc p) r = g .table (suc p) (omega arith) .registers .sequence
 
   pub observed-bound : (p : ℕ) → In (s .P) p → processor-at s p .observed .sequence ≤ s .applied
-  observed-bound p r = omega (arith, g .known-observed p r, sequence-bound (processor-at s p .observed .processor) (g .table p r .observed-most))
+  observed-bound p r = omega (arith, g .known-observed p r, sequence-bound (processor-at s p .observed .processor) (g .table p r .registers .observed-most))
 
   pub token-bound : (m : ℕ) → In (s .M) m → mutex-at s m .token .sequence ≤ s .applied
   token-bound m r = g .sound m r .token-high
@@ -113,13 +113,13 @@ module _ (c : Config) (e : config-cause c ≡ 0) (ms : List Move) (ok : accepted
       rw z at (owner-history ms (start c) m k (start-good c (ranges c e)) ok rm rk)
 
   -- a thread is new or terminated by history where its life says so
-  pub gone-is : (k : ℕ) → In (c .T) k → gone (life-at (run (start c) ms) k) ≡ one-if (unborn c ms k) + one-if (ended c ms k)
+  gone-is : (k : ℕ) → In (c .T) k → gone (life-at (run (start c) ms) k) ≡ one-if (unborn c ms k) + one-if (ended c ms k)
   unfolding start
   gone-is k r =
       let z = first-lives (c .B) k in
       rw (life-start c k r, z .0, z .1) at (life-history ms (start c) k (start-good c (ranges c e)) ok r)
 
-pub safe : (c : Config) (ms : List Move) → config-cause c ≡ 0 → accepted (start c) ms ≡ true → Safe c ms
+pub safe : Always Safe
 safe c ms e ok =
     record {
       one-owner = λ m k j rm rk rj h i. owned m k rm rk h ∙ sym (owned m j rm rj i);

@@ -4,12 +4,11 @@ use Prim.Native.Nat.{ℕ, _≤_, _<_}
 use mathlib.Core.Bool.{Bool, true, false, _&&_, not, true≢false}
 use mathlib.Core.List.{List, _∷_}
 use mathlib.Core.Path.{_≡_, ap, sym}
-use lib.Dec.{eqb, leb}
+use lib.Dec.{leb}
 use borrow.Author.Tests.{leb-true, leb-false, eqb-true, not-false}
-use Rattle.reference.specs.Lists.{in-range}
-use Rattle.reference.specs.State.{State, App, new, same-life, processor-at, mutex-at, life-at}
+use Rattle.reference.specs.State.{State, App, new, processor-at, mutex-at, life-at}
 use Rattle.reference.specs.Step.{Action, Move, action-of, next}
-use Rattle.reference.specs.Cause.{operand-fits, is-go, is-unlock, is-create, at-app, refused-here, cause, accepted}
+use Rattle.reference.specs.Cause.{operand-fits, is-go, is-unlock, is-create, at-app, Facts, facts, cause, accepted}
 use Rattle.reference.specs.Safe.{In}
 use Rattle.reference.proofs.Tests.{both-left, both-right, _and_, range-true, passed}
 use Rattle.reference.proofs.Same.{same-line-exact, same-life-exact}
@@ -33,32 +32,29 @@ other : (a b : Bool) → a && b ≡ false → a ≡ true → b ≡ false
 other true b e h = e
 other false b e h = absurd (true≢false (sym h))
 
-here : (s : State) (p : ℕ) (a : Action) (o : ℕ) → refused-here s p a o ≡ 0 → Here s p a o
-here s p a o e =
-    let h = passed (not (is-go a) && not (at-app s p)) _ _ e in
-    let i = passed (is-go a && at-app s p) _ _ (h .1) in
-    let j = passed (is-unlock a && not (eqb (mutex-at s o .owner) (processor-at s p .current))) _ _ (i .1) in
-    let k = passed (is-create a && not (same-life (life-at s o) new)) _ _ (j .1) in
-    record {
-      call = λ x. same-line-exact .only (processor-at s p .position) App (not-false _ (other (not (is-go a)) _ (h .0) (ap not x)));
-      away = other (is-go a) _ (i .0);
-      owner = λ x. eqb-true (mutex-at s o .owner) (processor-at s p .current) (not-false _ (other (is-unlock a) _ (j .0) x));
-      unborn = λ x. same-life-exact .only (life-at s o) new (not-false _ (other (is-create a) _ (k .0) x));
-    }
-
 pub legal : (s : State) (a : Move) → cause s a ≡ 0 → Legal s a
 unfolding cause
 legal s a e =
-    let h = passed (not (in-range 1 (s .P) (a .processor))) _ _ e in
-    let i = passed (not (leb (a .action) 6 && operand-fits s (action-of (a .action)) (a .operand))) _ _ (h .1) in
-    let j = passed (leb 4000 (s .applied)) _ _ (i .1) in
-    let k = not-false _ (i .0) in
+    let f : Facts = facts s a in
+    let h = passed (not (f .there)) _ _ e in
+    let i = passed (not (f .fits)) _ _ (h .1) in
+    let j = passed (f .full) _ _ (i .1) in
+    let k = passed (not (f .goes) && not (f .at-app)) _ _ (j .1) in
+    let l = passed (f .goes && f .at-app) _ _ (k .1) in
+    let m = passed (f .unlocks && not (f .owner)) _ _ (l .1) in
+    let n = passed (f .creates && not (f .is-new)) _ _ (m .1) in
+    let fits = not-false _ (i .0) in
     record {
       processor = range-true 1 (s .P) (a .processor) (not-false _ (h .0));
-      action = leb-true (a .action) 6 (both-left (leb (a .action) 6) _ k);
-      operand = both-right (leb (a .action) 6) _ k;
+      action = leb-true (a .action) 6 (both-left (leb (a .action) 6) _ fits);
+      operand = both-right (leb (a .action) 6) _ fits;
       room = leb-false 4000 (s .applied) (j .0);
-      here = here s (a .processor) (action-of (a .action)) (a .operand) (j .1);
+      here = record {
+        call = λ x. same-line-exact .only (processor-at s (a .processor) .position) App (not-false _ (other (not (f .goes)) _ (k .0) (ap not x)));
+        away = other (f .goes) _ (l .0);
+        owner = λ x. eqb-true (mutex-at s (a .operand) .owner) (processor-at s (a .processor) .current) (not-false _ (other (f .unlocks) _ (m .0) x));
+        unborn = λ x. same-life-exact .only (life-at s (a .operand)) new (not-false _ (other (f .creates) _ (n .0) x));
+      };
     }
 
 pub accepted-cons : (s : State) (a : Move) (rest : List Move) → accepted s (a ∷ rest) ≡ true → (cause s a ≡ 0) × (accepted (next s a) rest ≡ true)

@@ -1,4 +1,4 @@
--- The scope's worked sessions, and the laws of the reference machine.
+-- The worked sessions, the slips, and the laws of the reference machine.
 pub mod Worked
 pub mod Tests
 pub mod Each
@@ -15,8 +15,9 @@ pub mod Lives
 pub mod Bound
 pub mod Laws
 pub mod Break
+pub mod Bounds
+pub mod Slips
 pub mod Moves
 pub mod Script
-pub mod Session
 pub mod Queues
 pub mod OneProcessor

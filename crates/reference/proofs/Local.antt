@@ -8,13 +8,15 @@ use mathlib.Core.Logic.{_≢_}
 use mathlib.Core.Path.{_≡_, refl, ap, sym, subst}
 use native.Mathlib.Omega.{arith}
 use native.Mathlib.Nat.{mod-lt}
+use lib.Dec.{eqb}
 use lib.ListN.{length, length-append}
+use borrow.Author.Tests.{eqb-true}
 use Rattle.reference.specs.Lists.{sum, is, choose, in-range}
 use Rattle.reference.specs.State.{Token, Processor, Mutex, Line, App, CI2, CI3, L1, L3, L4, L6, L7, L8, L9, L10, TL1, GT1, GT3, TL3, U1, H2, H3, H5, H6, H8, Y1, Y2, Y3, C2, row, probes, same-token}
-use Rattle.reference.specs.Step.{View, line, own-token, Action, go, lock, trylock, unlock, yield, exit, create, act, target, created-by, ended-by}
+use Rattle.reference.specs.Step.{View, line, own-token, unchanged, Action, go, lock, trylock, unlock, yield, exit, create, act, target, created-by, ended-by}
 use Rattle.reference.specs.Cause.{is-go}
 use Rattle.reference.specs.Safe.{In, one-if}
-use Rattle.reference.proofs.Tests.{range-true, true-range}
+use Rattle.reference.proofs.Tests.{both-left, range-true, true-range}
 use Rattle.reference.proofs.Same.{same-token-exact}
 use Rattle.reference.proofs.Sums.{some, some-le, some-one, some-pos, sum-snoc, choose-by, if-zero-by, if-empty-by}
 
@@ -33,36 +35,39 @@ in-out T k h g = rw (true-range 1 T k h g)
 pub token-processor : (t u : Token) → same-token t u ≡ true → t .processor ≡ u .processor
 token-processor t u e = ap (λ (x : Token). x .processor) (same-token-exact .only t u e)
 
+pub unchanged-processor : (v : View) → unchanged v ≡ true → v .mutex .token .processor ≡ v .proc .observed .processor
+unchanged-processor v e = eqb-true _ _ (both-left (eqb (v .mutex .token .processor) (v .proc .observed .processor)) _ e)
+
 pub token-self : (t : Token) → one-if (same-token t t) ≡ 1
 token-self t = ap one-if (same-token-exact .itself t)
 
-pub one-if-one : (b : Bool) → one-if b ≤ 1
+one-if-one : (b : Bool) → one-if b ≤ 1
 one-if-one true = omega arith
 one-if-one false = omega arith
 
--- the first of a queue is taken
-record Taken (T : ℕ) (f : ℕ → ℕ) (q : List ℕ) (x : ℕ) (xs : List ℕ) : Type 0 where
-  long : length q ≡ suc (length xs)
-  share : sum f q ≡ f x + sum f xs
-  rest : sum (out T) xs ≡ 0
-  low : 1 ≤ x
-  high : x ≤ T
-  some : some x ≡ 1
+-- the first of a queue is taken; f weighs threads
+pub record FirstOf (T : ℕ) (f : ℕ → ℕ) (q : List ℕ) (x : ℕ) (xs : List ℕ) : Type 0 where
+  pub long : length q ≡ suc (length xs)
+  pub share : sum f q ≡ f x + sum f xs
+  pub rest : sum (out T) xs ≡ 0
+  pub low : 1 ≤ x
+  pub high : x ≤ T
+  pub some : some x ≡ 1
 
-taken : (T : ℕ) (f : ℕ → ℕ) {q : List ℕ} {x : ℕ} {xs : List ℕ} → q ≡ x ∷ xs → sum (out T) q ≡ 0 → Taken T f q x xs
+pub first-taken : (T : ℕ) (f : ℕ → ℕ) {q : List ℕ} {x : ℕ} {xs : List ℕ} → q ≡ x ∷ xs → sum (out T) q ≡ 0 → FirstOf T f q x xs
 unfolding sum
-taken T f {q} {x} {xs} e h =
+first-taken T f {q} {x} {xs} e h =
     let d : sum (out T) q ≡ out T x + sum (out T) xs = ap (sum (out T)) e in
     let r : In T x = out-in T x (omega arith) in
     record { long = ap length e; share = ap (sum f) e; rest = omega arith; low = r .0; high = r .1; some = some-pos x (r .0) }
 
 -- a thread joins a queue
-record Joined (T : ℕ) (f : ℕ → ℕ) (q : List ℕ) (x : ℕ) : Type 0 where
-  long : length (q ++ x ∷ []) ≡ length q + 1
-  share : sum f (q ++ x ∷ []) ≡ sum f q + f x
-  rest : sum (out T) (q ++ x ∷ []) ≡ 0
+pub record Joined (T : ℕ) (f : ℕ → ℕ) (q : List ℕ) (x : ℕ) : Type 0 where
+  pub long : length (q ++ x ∷ []) ≡ length q + 1
+  pub share : sum f (q ++ x ∷ []) ≡ sum f q + f x
+  pub rest : sum (out T) (q ++ x ∷ []) ≡ 0
 
-joined : (T : ℕ) (f : ℕ → ℕ) (q : List ℕ) (x : ℕ) → sum (out T) q ≡ 0 → 1 ≤ x → x ≤ T → Joined T f q x
+pub joined : (T : ℕ) (f : ℕ → ℕ) (q : List ℕ) (x : ℕ) → sum (out T) q ≡ 0 → 1 ≤ x → x ≤ T → Joined T f q x
 joined T f q x h low high =
     record { long = length-append q (x ∷ []); share = sum-snoc f q x; rest = omega (arith, sum-snoc (out T) q x, in-out T x low high) }
 
@@ -116,8 +121,8 @@ duty C2 = duties 0 0 0 0 0 0 0 0 0
 abbrev pub watch : Line → Token → ℕ → Processor → ℕ
 watch l t p r = duty l .looks + duty l .saw * one-if (same-token t (r .observed)) + duty l .offers * one-if (same-token t (record { processor = p; sequence = r .sequence }))
 
--- the register table, with the ranges: a register that the row names is in 1 .. its bound, any other is 0
-pub record Table (P T M N : ℕ) (l : Line) (r : Processor) : Type 0 where
+-- the registers of a processor at line l: in 1 .. their bound where the line's row has 1, else 0; N bounds its own sequence number
+pub record Registers (P T M N : ℕ) (l : Line) (r : Processor) : Type 0 where
   pub answer : r .answer ≤ 2
   pub current-low : row l .current ≤ r .current
   pub current-high : r .current ≤ T * row l .current
@@ -134,6 +139,10 @@ pub record Table (P T M N : ℕ) (l : Line) (r : Processor) : Type 0 where
   pub observed-sequence-low : row l .observed ≤ r .observed .sequence
   pub observed-sequence-high : r .observed .sequence ≤ 4000 * row l .observed
   pub sequence : r .sequence ≤ N
+
+-- and what its duties ask of them
+pub record Table (P T M N : ℕ) (l : Line) (r : Processor) : Type 0 where
+  pub registers : Registers P T M N l r
   pub responsible : duty l .responsible ≤ r .mutex
   pub holds : duty l .holds ≤ r .mutex
   pub holder : duty l .holds ≤ r .current
@@ -143,7 +152,7 @@ pub record Table (P T M N : ℕ) (l : Line) (r : Processor) : Type 0 where
   pub carrier : duty l .carries ≤ r .current + r .transit
   pub once : duty l .carries ≤ 1
 
--- the look number, of r ready queues: 0 to r − 1, and 0 elsewhere than at CI2
+-- the probe, of r ready queues: 0 to r − 1, and 0 elsewhere than at CI2
 pub record ProbeFits (r : ℕ) (l : Line) (n : ℕ) : Type 0 where
   pub most : n < r
   pub zero : n ≤ r * probes l
@@ -223,12 +232,12 @@ module _ (P T M N : ℕ) (f : ℕ → ℕ) where
   loads : {l : Line} (v : View) → Fit l v → row l .current ≡ 1 → some (v .proc .current) ≡ 1
   loads v h e = some-pos (v .proc .current) (omega arith)
 
-  pub line-done : (l : Line) (v : View) → Fit l v → Done l (v .proc .mutex) 0 0 v (line l v)
+  line-done : (l : Line) (v : View) → Fit l v → Done l (v .proc .mutex) 0 0 v (line l v)
   unfolding line
   line-done App v h = subst (λ (n : Line). Done′ App n (v .proc .mutex) 0 0 v v) (sym (h .here)) (omega arith)
   line-done CI2 v h =
       if-empty-by (Done CI2 (v .proc .mutex) 0 0 v) (v .ready) (λ e. omega (arith, mod-lt (suc (v .proc .probe)) {m = v .queues} (omega arith)))
-      (λ x xs e. omega (arith, taken T f e (h .ready)))
+      (λ x xs e. omega (arith, first-taken T f e (h .ready)))
   line-done CI3 v h = omega arith
   line-done L1 v h = if-zero-by (Done L1 (v .proc .mutex) 0 0 v) (v .mutex .count) (λ e. omega (arith, ap some e, loads v h refl)) (λ c e. omega (arith, ap some e))
   line-done L3 v h = omega arith
@@ -236,17 +245,17 @@ module _ (P T M N : ℕ) (f : ℕ → ℕ) where
   line-done L6 v h = if-zero-by (Done L6 (v .proc .mutex) 0 0 v) (v .mutex .token .processor) (λ e. omega arith) (λ c e. omega (arith, ap some e))
   line-done L7 v h = if-empty-by (Done L7 (v .proc .mutex) 0 0 v) (v .mutex .queue) (λ e. omega arith) (λ x xs e. omega arith)
   line-done L8 v h =
-      choose-by (Done L8 (v .proc .mutex) 0 0 v) (same-token (v .mutex .token) (v .proc .observed))
-      (λ e. omega (arith, some-pos (v .mutex .token .processor) (omega (arith, token-processor (v .mutex .token) (v .proc .observed) e)), some-one (v .mutex .count)))
+      choose-by (Done L8 (v .proc .mutex) 0 0 v) (unchanged v)
+      (λ e. omega (arith, some-pos (v .mutex .token .processor) (omega (arith, unchanged-processor v e)), some-one (v .mutex .count)))
       (λ e. omega arith)
   line-done L9 v h =
-      if-empty-by (Done L9 (v .proc .mutex) 0 0 v) (v .mutex .queue) (λ e. omega arith) (λ x xs e. omega (arith, taken T f e (h .sound .queue), some-one (v .mutex .count)))
+      if-empty-by (Done L9 (v .proc .mutex) 0 0 v) (v .mutex .queue) (λ e. omega arith) (λ x xs e. omega (arith, first-taken T f e (h .sound .queue), some-one (v .mutex .count)))
   line-done L10 v h = omega arith
   line-done TL1 v h = if-zero-by (Done TL1 (v .proc .mutex) 0 0 v) (v .mutex .count) (λ e. omega (arith, ap some e, loads v h refl)) (λ c e. omega arith)
   line-done GT1 v h = if-zero-by (Done GT1 (v .proc .mutex) 0 0 v) (v .mutex .token .processor) (λ e. omega arith) (λ c e. omega (arith, ap some e))
   line-done GT3 v h =
-      choose-by (Done GT3 (v .proc .mutex) 0 0 v) (same-token (v .mutex .token) (v .proc .observed))
-      (λ e. omega (arith, some-pos (v .mutex .token .processor) (omega (arith, token-processor (v .mutex .token) (v .proc .observed) e)), some-one (v .mutex .count), loads v h refl))
+      choose-by (Done GT3 (v .proc .mutex) 0 0 v) (unchanged v)
+      (λ e. omega (arith, some-pos (v .mutex .token .processor) (omega (arith, unchanged-processor v e)), some-one (v .mutex .count), loads v h refl))
       (λ e. omega arith)
   line-done TL3 v h = omega (arith, h .holds (omega arith), some-one (v .mutex .count), some-pos (v .mutex .owner) (omega (arith, h .holds (omega arith))))
   line-done U1 v h =
@@ -254,7 +263,7 @@ module _ (P T M N : ℕ) (f : ℕ → ℕ) where
       (λ e. omega (arith, ap some e, some-one (v .mutex .count), some-le (v .mutex .count), h .holds (omega arith), some-pos (v .mutex .owner) (omega (arith, h .holds (omega arith)))))
       (λ c e. omega (arith, ap some e, some-one (v .mutex .count), some-le (v .mutex .count), h .holds (omega arith), some-pos (v .mutex .owner) (omega (arith, h .holds (omega arith)))))
   line-done H2 v h =
-      if-empty-by (Done H2 (v .proc .mutex) 0 0 v) (v .mutex .queue) (λ e. omega arith) (λ x xs e. omega (arith, taken T f e (h .sound .queue), some-one (v .mutex .count)))
+      if-empty-by (Done H2 (v .proc .mutex) 0 0 v) (v .mutex .queue) (λ e. omega arith) (λ x xs e. omega (arith, first-taken T f e (h .sound .queue), some-one (v .mutex .count)))
   line-done H3 v h = omega (arith, joined T f (v .ready) (v .proc .transit) (h .ready) (omega arith) (omega arith))
   line-done H5 v h = omega (arith, some-pos (v .self) (omega arith), some-one (v .mutex .count))
   line-done H6 v h = if-empty-by (Done H6 (v .proc .mutex) 0 0 v) (v .mutex .queue) (λ e. omega arith) (λ x xs e. omega arith)
@@ -300,7 +309,7 @@ module _ (P T M N : ℕ) (f : ℕ → ℕ) where
   abbrev pub Handled : Line → ℕ → View → View → Type 0
   Handled l m v v′ = Handled′ l (v′ .proc .position) m v v′
 
-  pub line-handled : (l : Line) (v : View) → Fit l v → Handled l (v .proc .mutex) v (line l v)
+  line-handled : (l : Line) (v : View) → Fit l v → Handled l (v .proc .mutex) v (line l v)
   unfolding line
   line-handled App v h = subst (λ (n : Line). Handled′ App n (v .proc .mutex) v v) (sym (h .here)) (omega arith)
   line-handled CI2 v h = if-empty-by (Handled CI2 (v .proc .mutex) v) (v .ready) (λ e. omega arith) (λ x xs e. omega arith)
@@ -313,17 +322,17 @@ module _ (P T M N : ℕ) (f : ℕ → ℕ) where
   line-handled L7 v h =
       if-empty-by (Handled L7 (v .proc .mutex) v) (v .mutex .queue) (λ e. omega (arith, ap length e)) (λ x xs e. omega (arith, ap length e, one-if-one (same-token (v .mutex .token) (v .proc .observed))))
   line-handled L8 v h =
-      choose-by (Handled L8 (v .proc .mutex) v) (same-token (v .mutex .token) (v .proc .observed))
-      (λ e. omega (arith, ap one-if e, some-pos (v .mutex .token .processor) (omega (arith, token-processor (v .mutex .token) (v .proc .observed) e)), some-one (v .mutex .count)))
+      choose-by (Handled L8 (v .proc .mutex) v) (unchanged v)
+      (λ e. omega (arith, ap one-if e, some-pos (v .mutex .token .processor) (omega (arith, unchanged-processor v e)), some-one (v .mutex .count)))
       (λ e. omega (arith, ap one-if e))
   line-handled L9 v h =
-      if-empty-by (Handled L9 (v .proc .mutex) v) (v .mutex .queue) (λ e. omega (arith, ap length e)) (λ x xs e. omega (arith, taken T f e (h .sound .queue), some-one (v .mutex .count)))
+      if-empty-by (Handled L9 (v .proc .mutex) v) (v .mutex .queue) (λ e. omega (arith, ap length e)) (λ x xs e. omega (arith, first-taken T f e (h .sound .queue), some-one (v .mutex .count)))
   line-handled L10 v h = omega arith
   line-handled TL1 v h = if-zero-by (Handled TL1 (v .proc .mutex) v) (v .mutex .count) (λ e. omega (arith, ap some e)) (λ c e. omega arith)
   line-handled GT1 v h = if-zero-by (Handled GT1 (v .proc .mutex) v) (v .mutex .token .processor) (λ e. omega arith) (λ c e. omega (arith, ap some e))
   line-handled GT3 v h =
-      choose-by (Handled GT3 (v .proc .mutex) v) (same-token (v .mutex .token) (v .proc .observed))
-      (λ e. omega (arith, some-pos (v .mutex .token .processor) (omega (arith, token-processor (v .mutex .token) (v .proc .observed) e)), some-one (v .mutex .count)))
+      choose-by (Handled GT3 (v .proc .mutex) v) (unchanged v)
+      (λ e. omega (arith, some-pos (v .mutex .token .processor) (omega (arith, unchanged-processor v e)), some-one (v .mutex .count)))
       (λ e. omega arith)
   line-handled TL3 v h = omega (arith, h .holds (omega arith), some-one (v .mutex .count), some-pos (v .mutex .owner) (omega (arith, h .holds (omega arith))))
   line-handled U1 v h =
@@ -331,7 +340,7 @@ module _ (P T M N : ℕ) (f : ℕ → ℕ) where
       (λ e. omega (arith, ap some e, some-one (v .mutex .count), some-le (v .mutex .count), h .holds (omega arith), some-pos (v .mutex .owner) (omega (arith, h .holds (omega arith)))))
       (λ c e. omega (arith, ap some e, some-one (v .mutex .count), some-le (v .mutex .count), h .holds (omega arith), some-pos (v .mutex .owner) (omega (arith, h .holds (omega arith)))))
   line-handled H2 v h =
-      if-empty-by (Handled H2 (v .proc .mutex) v) (v .mutex .queue) (λ e. omega (arith, ap length e)) (λ x xs e. omega (arith, taken T f e (h .sound .queue), some-one (v .mutex .count)))
+      if-empty-by (Handled H2 (v .proc .mutex) v) (v .mutex .queue) (λ e. omega (arith, ap length e)) (λ x xs e. omega (arith, first-taken T f e (h .sound .queue), some-one (v .mutex .count)))
   line-handled H3 v h = omega arith
   line-handled H5 v h =
       omega (arith, some-pos (v .self) (omega arith), some-one (v .mutex .count), token-self (record { processor = v .self; sequence = suc (v .proc .sequence) }))

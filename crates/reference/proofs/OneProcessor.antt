@@ -10,7 +10,7 @@ use Rattle.reference.specs.State.{State}
 use Rattle.reference.specs.Start.{Config, config-cause, itself, start}
 use Rattle.reference.specs.Step.{Action, go, lock, trylock, unlock, yield, exit, create, Move, action-of, next, run}
 use Rattle.reference.specs.Cause.{operand-fits, cause}
-use Rattle.reference.specs.Snapshot.{Entry, entry, or-else, thread-entry, stands-in, header-bytes, processor-record}
+use Rattle.reference.specs.Picture.{Entry, entry, or-else, thread-entry, stands-in, header-bytes, processor-record}
 use Rattle.reference.specs.OneProcessor.{choosing, with-stealing, unnamed, ending, Alike}
 
 -- ---- no move reads the choice

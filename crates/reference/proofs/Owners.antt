@@ -10,13 +10,13 @@ use lib.Dec.{eqb}
 use borrow.Author.Tests.{eqb-true, eqb-false, eq-eqb, ne-eqb}
 use Rattle.reference.specs.Lists.{at, put, is, choose, if-zero, if-empty}
 use Rattle.reference.specs.State.{Mutex, State, Line, App, CI2, CI3, L1, L3, L4, L6, L7, L8, L9, L10, TL1, GT1, GT3, TL3, U1, H2, H3, H5, H6, H8, Y1, Y2, Y3, C2, free-mutex, processor-at, mutex-at, same-token}
-use Rattle.reference.specs.Step.{View, Action, go, lock, trylock, unlock, yield, exit, create, own-token, line, act, view, does, Move, action-of, next, run}
+use Rattle.reference.specs.Step.{View, Action, go, lock, trylock, unlock, yield, exit, create, own-token, unchanged, line, act, view, does, Move, action-of, next, run}
 use Rattle.reference.specs.Cause.{accepted}
 use Rattle.reference.specs.History.{gains, drops, owns-after, owns-after-go, owns}
 use Rattle.reference.specs.Safe.{In}
 use Rattle.reference.proofs.Sums.{some, some-one, some-pos, choose-by, if-zero-by, if-empty-by, at-put}
 use Rattle.reference.proofs.Legal.{legal, accepted-cons}
-use Rattle.reference.proofs.Local.{Fit, token-processor}
+use Rattle.reference.proofs.Local.{Fit, unchanged-processor}
 use Rattle.reference.proofs.Invariant.{Good, go-fit, next-good}
 
 some-none : (n : ℕ) → some n ≡ 0 → n ≡ 0
@@ -30,7 +30,7 @@ pub record Event (l : Line) (v v′ : View) : Type 0 where
   pub kept : gains l v ≡ 0 → drops l v ≡ 0 → v′ .mutex .owner ≡ v .mutex .owner
 
 module _ (P T M N : ℕ) (f : ℕ → ℕ) where
-  pub event : (l : Line) (v : View) → Fit P T M N f l v → Event l v (line l v)
+  event : (l : Line) (v : View) → Fit P T M N f l v → Event l v (line l v)
   unfolding line gains drops
   event App v h = omega arith
   event CI2 v h = if-empty-by (Event CI2 v) (v .ready) (λ e. omega arith) (λ x xs e. omega arith)
@@ -43,7 +43,7 @@ module _ (P T M N : ℕ) (f : ℕ → ℕ) where
   event L4 v h = omega arith
   event L6 v h = if-zero-by (Event L6 v) (v .mutex .token .processor) (λ e. omega arith) (λ c e. omega arith)
   event L7 v h = if-empty-by (Event L7 v) (v .mutex .queue) (λ e. omega arith) (λ x xs e. omega arith)
-  event L8 v h = choose-by (Event L8 v) (same-token (v .mutex .token) (v .proc .observed)) (λ e. omega arith) (λ e. omega arith)
+  event L8 v h = choose-by (Event L8 v) (unchanged v) (λ e. omega arith) (λ e. omega arith)
   event L9 v h =
       if-empty-by (Event L9 v) (v .mutex .queue)
       (λ e. omega (arith, ap (λ (q : List ℕ). if-empty q 0 (λ x xs. x)) e))
@@ -55,13 +55,13 @@ module _ (P T M N : ℕ) (f : ℕ → ℕ) where
       (λ c e. omega (arith, ap (λ (c : ℕ). if-zero c (v .proc .current) 0) e))
   event GT1 v h = if-zero-by (Event GT1 v) (v .mutex .token .processor) (λ e. omega arith) (λ c e. omega arith)
   event GT3 v h =
-      choose-by (Event GT3 v) (same-token (v .mutex .token) (v .proc .observed))
+      choose-by (Event GT3 v) (unchanged v)
       (λ e.
       omega (
         arith,
         ap (λ (b : Bool). choose b (v .proc .current) 0) e,
         some-none (v .mutex .owner)
-            (omega (arith, some-one (v .mutex .count), some-pos (v .mutex .token .processor) (omega (arith, token-processor (v .mutex .token) (v .proc .observed) e)))),
+            (omega (arith, some-one (v .mutex .count), some-pos (v .mutex .token .processor) (omega (arith, unchanged-processor v e)))),
       ))
       (λ e. omega (arith, ap (λ (b : Bool). choose b (v .proc .current) 0) e))
   event TL3 v h = omega arith
@@ -123,7 +123,7 @@ module _ (s : State) (g : Good s) (p : ℕ) (rp : In (s .P) p) (early : s .appli
   after-call j =
       at-put (λ (i : ℕ) (x : Mutex). eqb (mutex-at s i .owner) k ≡ eqb (x .owner) k) (s .mutexes) j m (mutex-at s j) free-mutex (omega (arith, g .mutexes)) (λ i. refl) (λ n. refl)
 
-  pub owner-kept : (a : Action) (o : ℕ) → owns-after a s p m k (eqb (mutex-at s m .owner) k) ≡ eqb (mutex-at (does s p a o) m .owner) k
+  owner-kept : (a : Action) (o : ℕ) → owns-after a s p m k (eqb (mutex-at s m .owner) k) ≡ eqb (mutex-at (does s p a o) m .owner) k
   unfolding act
   owner-kept go o = after-line
   owner-kept lock o = after-call o

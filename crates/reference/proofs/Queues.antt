@@ -2,16 +2,13 @@
 -- Assumes nothing.
 use Prim.Native.Nat.{ℕ, _+_, _*_, _<_}
 use mathlib.Core.Bool.{Bool, true, false}
-use mathlib.Core.List.{List}
 use mathlib.Core.Path.{_≡_, ap, _∙_}
 use native.Mathlib.Omega.{arith}
 use lib.ListN.{length}
 use Rattle.reference.specs.Lists.{choose, around}
 use Rattle.reference.specs.State.{State, CI2, same-line, probes, processor-at, queues}
-use Rattle.reference.specs.Start.{Config, config-cause, start}
-use Rattle.reference.specs.Step.{Move, works-on}
-use Rattle.reference.specs.Cause.{accepted}
-use Rattle.reference.specs.Safe.{In, end}
+use Rattle.reference.specs.Step.{works-on}
+use Rattle.reference.specs.Safe.{In, end, Always}
 use Rattle.reference.specs.Queues.{ReadyQueues}
 use Rattle.reference.proofs.Sums.{around-self}
 use Rattle.reference.proofs.Invariant.{Good, works-in}
@@ -46,7 +43,7 @@ module _ (s : State) (g : Good s) (p : ℕ) (r : In (s .P) p) where
         let n : probes (processor-at s p .position) * look ≡ look = rw c (omega arith) in
         (rw (each, n), omega (arith, g .probe p r .most, each))
 
-pub ready-queues : (c : Config) (ms : List Move) → config-cause c ≡ 0 → accepted (start c) ms ≡ true → ReadyQueues c ms
+pub ready-queues : Always ReadyQueues
 ready-queues c ms e ok =
     let g = good c e ms ok in
     let z = sized c ms in

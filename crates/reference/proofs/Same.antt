@@ -47,7 +47,7 @@ pub record Exact {A : Type 0} (same : A → A → Bool) : Type 0 where
 eqb-self : (n : ℕ) → eqb n n ≡ true
 eqb-self n = eq-eqb n n refl
 
-pub same-number : Exact eqb
+same-number : Exact eqb
 same-number = record { itself = eqb-self; only = eqb-true }
 
 pub same-line-exact : Exact same-line
@@ -66,7 +66,7 @@ same-token-exact =
           (λ i. record { processor = h .0 i; sequence = h .1 i });
     }
 
-pub same-list-exact : {A : Type 0} {same : A → A → Bool} → Exact same → Exact (same-list same)
+same-list-exact : {A : Type 0} {same : A → A → Bool} → Exact same → Exact (same-list same)
 unfolding same-list
 same-list-exact {A} {same} x = record { itself = itself; only = only }
   where
@@ -80,7 +80,7 @@ same-list-exact {A} {same} x = record { itself = itself; only = only }
     only (a ∷ l) [] e = absurd (true≢false (sym e))
     only (a ∷ l) (b ∷ m) e = let h = (x .only a b and only l m) e in (λ i. h .0 i ∷ h .1 i)
 
-pub same-processor-exact : Exact same-processor
+same-processor-exact : Exact same-processor
 same-processor-exact =
     record {
       itself = λ r. simp eqb-self;
@@ -93,7 +93,7 @@ same-processor-exact =
           (λ i. record { position = h .0 .0 .0 .0 .0 .0 .0 i; current = h .0 .0 .0 .0 .0 .0 .1 i; transit = h .0 .0 .0 .0 .0 .1 i; mutex = h .0 .0 .0 .0 .1 i; observed = h .0 .0 .0 .1 i; sequence = h .0 .0 .1 i; answer = h .0 .1 i; probe = h .1 i });
     }
 
-pub same-mutex-exact : Exact same-mutex
+same-mutex-exact : Exact same-mutex
 same-mutex-exact =
     record {
       itself = λ x. simp (eqb-self, same-list-exact same-number .itself (x .queue));

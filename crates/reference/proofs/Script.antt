@@ -15,7 +15,7 @@ use Rattle.reference.specs.Step.{Move, next, run}
 use Rattle.reference.specs.Cause.{cause, accepted}
 use Rattle.reference.specs.Safe.{one-if}
 use Rattle.reference.specs.Script.{call-of, progress, turn-cause, turn-after, turned, class-moves, class-answers, class-pictures}
-use Rattle.reference.specs.Snapshot.{picture}
+use Rattle.reference.specs.Picture.{picture}
 use Rattle.reference.proofs.Sums.{choose-by}
 use Rattle.reference.proofs.Legal.{accepted-cons}
 use Rattle.reference.proofs.Moves.{accepted-snoc}

@@ -1,38 +1,25 @@
 -- Document 01's sessions K4 to K9 and S, with every state that it names on the way, and the picture that it prints; a picture with a ready queue
 -- for each processor: computed from the definitions.
 -- Assumes nothing.
-use Prim.Native.Nat.{ℕ, zero, suc}
+use Prim.Native.Nat.{ℕ}
 use mathlib.Core.Bool.{true}
 use mathlib.Core.List.{List, [], _∷_, _++_}
 use mathlib.Core.Path.{_≡_, refl}
 use Rattle.reference.specs.Lists.{tabulate, those, find, sum, is}
 use Rattle.reference.specs.State.{Token, Processor, Mutex, Line, App, CI2, L3, L6, L8, H6, H8, processor-at, mutex-at}
 use Rattle.reference.specs.Start.{Config, start, config-cause}
-use Rattle.reference.specs.Step.{Move, run, next, act, action-of, line}
+use Rattle.reference.specs.Step.{Move, move-of, run, next, act, action-of, line}
 use Rattle.reference.specs.Cause.{cause, accepted}
-use Rattle.reference.specs.Snapshot.{picture, thread-entry, behind, concat}
+use Rattle.reference.specs.Slips.{locks, unlocks, exits, goes}
+use Rattle.reference.specs.Picture.{picture, thread-entry, behind, concat}
 
 -- ---- how a session is written down
 
 abbrev config : ℕ → ℕ → ℕ → ℕ → Config
 config p t m b = record { P = p; T = t; M = m; B = b; stealing = 0 }
 
-abbrev by : ℕ → ℕ → ℕ → Move
-by p a o = record { processor = p; action = a; operand = o }
-
-abbrev locks : ℕ → Move
-locks p = by p 1 1
-
 abbrev trylocks : ℕ → Move
-trylocks p = by p 2 1
-
-abbrev unlocks : ℕ → Move
-unlocks p = by p 3 1
-
--- n goes of processor p
-abbrev goes : ℕ → ℕ → List Move
-goes p zero = []
-goes p (suc n) = by p 0 0 ∷ goes p n
+trylocks p = move-of p 2 1
 
 abbrev token : ℕ → ℕ → Token
 token p n = record { processor = p; sequence = n }
@@ -55,7 +42,7 @@ Then c ms x q =
 abbrev Stands : Config → List Move → ℕ → Processor → Type 0
 Stands c ms p r = processor-at (run (start c) ms) p ≡ r
 
--- ---- K4, one thread: lock 1, go, lock 1, five goes (L1, L3, L4, L6, CI2)
+-- ---- K4: a thread locks the mutex that it owns, and waits for itself
 
 abbrev one : Config
 one = config 1 1 1 1
@@ -79,7 +66,7 @@ k4-at-ci2 : Stands one (k4 5) 1 (stands CI2 0 0 0 none 0)
 unfolding start tabulate those run next act action-of line
 k4-at-ci2 = refl
 
--- ---- session S: both lock 1; processor 1 goes (owner 1), 2 goes (L3); 1 unlocks, goes through U1, H2, H5
+-- ---- session S: an owner unlocks while the second caller is counted and not queued yet, so it offers a token
 
 abbrev two : Config
 two = config 2 2 1 2
@@ -106,7 +93,7 @@ s-at-h6 : Stands two s 1 (stands H6 1 0 1 none 1)
 unfolding start tabulate those run next act action-of line
 s-at-h6 = refl
 
--- ---- K5: 1 leaves at H6; 2 goes L3 to L10: owner 2, count 1
+-- ---- K5: the second caller takes the token and serves itself
 
 k5-left : Stands two (s ++ goes 1 1) 1 (stands App 1 0 0 none 1)
 unfolding start tabulate those run next act action-of line
@@ -116,11 +103,11 @@ k5-end : Then two (s ++ goes 1 1 ++ goes 2 7) (mutex 1 [] 2 none) []
 unfolding config-cause start tabulate those run next act action-of line cause accepted
 k5-end = (refl, refl, refl, refl)
 
-k5-loaded : Stands two (s ++ goes 1 1 ++ goes 2 7) 2 (stands App 2 0 0 none 0)
+k5-current : Stands two (s ++ goes 1 1 ++ goes 2 7) 2 (stands App 2 0 0 none 0)
 unfolding start tabulate those run next act action-of line
-k5-loaded = refl
+k5-current = refl
 
--- ---- K6: 2 goes L3, L4; 1 goes H6, H8, H2, H3: thread 2 owns and is ready; 2's L6 leads to CI2
+-- ---- K6: the unlocker finds the second caller queued, takes its token back and makes it ready
 
 k6-ready : Then two (s ++ goes 2 2 ++ goes 1 4) (mutex 1 [] 2 none) (2 ∷ [])
 unfolding config-cause start tabulate those run next act action-of line cause accepted
@@ -134,7 +121,7 @@ k6-end : (accepted (start two) (s ++ goes 2 2 ++ goes 1 4 ++ goes 2 1) ≡ true)
 unfolding config-cause start tabulate those run next act action-of line cause accepted
 k6-end = (refl, refl)
 
--- ---- K7, S with 3 processors and threads: 2 goes L3, L4; 1 goes H6; 3 trylocks through TL1, GT1, GT3: owner 3; 1's H8 fails; TL3 makes count 2
+-- ---- K7: a trylock takes the token before either
 
 abbrev three : Config
 three = config 3 3 1 3
@@ -162,13 +149,13 @@ k7-answer : processor-at (run (start three) (k7-tried ++ goes 1 1 ++ goes 3 1)) 
 unfolding start tabulate those run next act action-of line
 k7-answer = refl
 
--- ---- K8: L8 with observed token (1,1), token (1,2): CI2
+-- ---- K8: a token with another sequence number is not the one observed
 
 k8 : line L8 (record { self = 2; proc = stands L8 0 0 1 (token 1 1) 0; mutex = mutex 1 (2 ∷ []) 0 (token 1 2); ready = []; queues = 1 }) .proc ≡ stands CI2 0 0 0 none 0
 unfolding line
 k8 = refl
 
--- ---- K9: unlock by a stranger is refused by 6
+-- ---- K9: an unlock of another's mutex
 
 k9 : cause (run (start two) (locks 1 ∷ goes 1 1)) (unlocks 2) ≡ 6
 unfolding start tabulate those run next act action-of line cause
@@ -182,9 +169,9 @@ unfolding start tabulate those picture concat thread-entry find sum
 printed = refl
 
 -- ---- a ready queue for each processor: start 2 3 1 3 1, processor 2 exits and goes. Byte 7 shows the choice; thread 3 is the first of queue 1, in the last byte
--- of processor 1's record, and names that processor; processor 2 stands at CI2 with look number 1
+-- of processor 1's record, and names that processor; processor 2 is at CI2 with probe 1
 
-stealing-printed : picture (run (start (record { P = 2; T = 3; M = 1; B = 3; stealing = 1 })) (by 2 5 0 ∷ goes 2 1)) ≡
+stealing-printed : picture (run (start (record { P = 2; T = 3; M = 1; B = 3; stealing = 1 })) (exits 2 ∷ goes 2 1)) ≡
     2 ∷ 3 ∷ 1 ∷ 0 ∷ 0 ∷ 2 ∷ 0 ∷ 1 ∷ 0 ∷ 1 ∷ 0 ∷ 0 ∷ 0 ∷ 0 ∷ 0 ∷ 0 ∷ 0 ∷ 0 ∷ 0 ∷ 3 ∷ 1 ∷ 0 ∷ 0 ∷ 0 ∷ 0 ∷ 1 ∷ 0 ∷ 0 ∷ 0 ∷ 0 ∷ 0 ∷ 0 ∷ 0 ∷ 0 ∷ 0 ∷ 0 ∷ 0 ∷ 0 ∷ 0 ∷ 0 ∷ 3 ∷ 1 ∷ 0 ∷ 0 ∷ 5 ∷ 0 ∷ 0 ∷ 0 ∷ 1 ∷ 1 ∷ 0 ∷ 0 ∷ []
 unfolding start tabulate those run next act action-of line picture concat thread-entry behind find sum is
 stealing-printed = refl

@@ -1,4 +1,4 @@
--- 15 at a step: what the step would make of the record breaks a rule. No session meets it (proofs/Laws.antt); a record that did not grow from a start table can.
+-- 15 at a step: what the step would make of the record breaks a rule. No session meets it (`unbroken` in Bounds.antt); a record that no session made can.
 -- Assumes nothing.
 use Prim.Native.Nat.{ℕ, _+_}
 use mathlib.Core.Bool.{Bool, true, false, _&&_, _||_}

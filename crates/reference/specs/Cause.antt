@@ -1,4 +1,4 @@
--- "Why the bench says no", for a move: the first of 2, 3, 8, 4 or 5, 6, 7 that is there, else 0.
+-- Why a move is refused: the first of 2, 3, 8, 4 or 5, 6, 7 that is there, else 0. Code and specs take the order from here (`first-cause`).
 -- Assumes nothing.
 use Prim.Native.Nat.{ℕ}
 use mathlib.Core.Bool.{Bool, true, false, _&&_, not}
@@ -49,20 +49,49 @@ is-create create = true
 abbrev pub at-app : State → ℕ → Bool
 at-app s p = same-line (processor-at s p .position) App
 
--- the causes that an action can meet where the processor, the action and its operand are in order and there is room
-abbrev pub refused-here : State → ℕ → Action → ℕ → ℕ
-refused-here s p a o =
-    refuse (not (is-go a) && not (at-app s p)) call-away
-    (refuse (is-go a && at-app s p) go-at-app
-    (refuse (is-unlock a && not (eqb (mutex-at s o .owner) (processor-at s p .current))) not-owner
-    (refuse (is-create a && not (same-life (life-at s o) new)) not-new 0)))
+-- what decides a move's cause
+pub record Facts : Type 0 where
+  -- its processor is there; so is its action, whose operand fits; 4,000 moves are applied
+  pub there : Bool
+  pub fits : Bool
+  pub full : Bool
+  -- it is a go, and its processor stands at App
+  pub goes : Bool
+  pub at-app : Bool
+  -- it is an unlock, and the current thread is the owner of the mutex that the operand names
+  pub unlocks : Bool
+  pub owner : Bool
+  -- it is a create, and the thread that the operand names is new
+  pub creates : Bool
+  pub is-new : Bool
+
+-- the order of the causes
+abbrev pub first-cause : Facts → ℕ
+first-cause f =
+    refuse (not (f .there)) no-processor
+    (refuse (not (f .fits)) bad-operand
+    (refuse (f .full) full
+    (refuse (not (f .goes) && not (f .at-app)) call-away
+    (refuse (f .goes && f .at-app) go-at-app
+    (refuse (f .unlocks && not (f .owner)) not-owner
+    (refuse (f .creates && not (f .is-new)) not-new 0))))))
+
+abbrev pub facts : State → Move → Facts
+facts s a =
+    record {
+      there = in-range 1 (s .P) (a .processor);
+      fits = leb (a .action) 6 && operand-fits s (action-of (a .action)) (a .operand);
+      full = leb 4000 (s .applied);
+      goes = is-go (action-of (a .action));
+      at-app = at-app s (a .processor);
+      unlocks = is-unlock (action-of (a .action));
+      owner = eqb (mutex-at s (a .operand) .owner) (processor-at s (a .processor) .current);
+      creates = is-create (action-of (a .action));
+      is-new = same-life (life-at s (a .operand)) new;
+    }
 
 unfoldable pub cause : State → Move → ℕ
-cause s a =
-    refuse (not (in-range 1 (s .P) (a .processor))) no-processor
-    (refuse (not (leb (a .action) 6 && operand-fits s (action-of (a .action)) (a .operand))) bad-operand
-    (refuse (leb 4000 (s .applied)) full
-    (refused-here s (a .processor) (action-of (a .action)) (a .operand))))
+cause s a = first-cause (facts s a)
 
 -- no move of the list has a cause when it is made
 unfoldable pub accepted : State → List Move → Bool

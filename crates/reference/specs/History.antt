@@ -1,23 +1,23 @@
--- History, read from the list of standing moves and the states before each: who owns a mutex, which threads are created or have exited. It never looks at the owner field.
+-- History, read from a list of moves and the state before each: who owns a mutex, which threads were created or have exited. The owner field is never looked at.
 -- Assumes nothing.
 use Prim.Native.Nat.{ℕ}
 use mathlib.Core.Bool.{Bool, true, false, _||_}
 use mathlib.Core.List.{List, [], _∷_}
 use lib.Dec.{eqb}
 use Rattle.reference.specs.Lists.{choose, if-zero, if-empty}
-use Rattle.reference.specs.State.{State, Line, L1, L9, TL1, GT3, U1, H2, same-line, same-token, processor-at}
-use Rattle.reference.specs.Step.{View, Move, Action, go, lock, trylock, unlock, yield, exit, create, view, action-of, next, created-by, ended-by}
+use Rattle.reference.specs.State.{State, Line, L1, L9, TL1, GT3, U1, H2, same-line, processor-at}
+use Rattle.reference.specs.Step.{View, Move, Action, go, lock, trylock, unlock, yield, exit, create, unchanged, view, action-of, next, created-by, ended-by}
 
--- the thread that by this line owns m, as the line says, 0 for none
+-- the thread that becomes m's owner at this line, 0 for none
 unfoldable pub gains : Line → View → ℕ
 gains l v =
     choose (same-line l L1) (if-zero (v .mutex .count) (v .proc .current) 0)
     (choose (same-line l TL1) (if-zero (v .mutex .count) (v .proc .current) 0)
-    (choose (same-line l GT3) (choose (same-token (v .mutex .token) (v .proc .observed)) (v .proc .current) 0)
+    (choose (same-line l GT3) (choose (unchanged v) (v .proc .current) 0)
     (choose (same-line l L9) (if-empty (v .mutex .queue) 0 (λ x rest. x))
     (choose (same-line l H2) (if-empty (v .mutex .queue) 0 (λ x rest. x)) 0))))
 
--- the thread whose U1 on m this line is, 0 for none
+-- the thread that gives m up at this line, 0 for none
 unfoldable pub drops : Line → View → ℕ
 drops l v = choose (same-line l U1) (v .proc .current) 0
 

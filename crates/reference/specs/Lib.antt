@@ -1,4 +1,4 @@
--- Document 01 as definitions, in its order: what a reader must believe.
+-- The machine and what is claimed of it, as definitions: what a reader must believe.
 pub mod Refusal
 pub mod Lists
 pub mod State
@@ -8,7 +8,9 @@ pub mod Cause
 pub mod Break
 pub mod History
 pub mod Safe
-pub mod Snapshot
+pub mod Bounds
+pub mod Slips
+pub mod Picture
 pub mod Script
 pub mod Session
 pub mod Queues

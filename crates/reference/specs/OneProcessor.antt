@@ -1,4 +1,4 @@
--- Document 02, No. 13: with one processor both choices of ready queues go through equal states, apart from the bytes that show the choice and the queues.
+-- With one processor both choices of ready queues (document 02, No. 13) lead to the same states, but for the choice itself.
 -- Assumes nothing.
 use Prim.Native.Nat.{ℕ}
 use mathlib.Core.List.{List}
@@ -10,9 +10,9 @@ use Rattle.reference.specs.State.{State}
 use Rattle.reference.specs.Start.{Config, config-cause, start}
 use Rattle.reference.specs.Step.{Move, run}
 use Rattle.reference.specs.Cause.{cause}
-use Rattle.reference.specs.Snapshot.{Entry, entry, thread-entry, header-bytes, processor-record}
+use Rattle.reference.specs.Picture.{Entry, entry, thread-entry, header-bytes, processor-record}
 
--- a start table, and a state, with choice n
+-- a configuration, and a state, with choice n
 abbrev pub choosing : ℕ → Config → Config
 choosing n c = record { P = c .P; T = c .T; M = c .M; B = c .B; stealing = n }
 
@@ -34,7 +34,7 @@ with-stealing n s =
 abbrev pub unnamed : Entry → Entry
 unnamed e = entry (e .status) (choose (eqb (e .status) 1) 0 (e .holder)) (e .next)
 
--- one list of moves from one start table with either choice
+-- one list of moves from one configuration with either choice
 module _ (c : Config) (ms : List Move) where
   abbrev pub ending : ℕ → State
   ending n = run (start (choosing n c)) ms

@@ -15,11 +15,11 @@ module _ (c : Config) (ms : List Move) where
   pub record ReadyQueues : Type 0 where
     -- one for all processors, or one for each
     pub count : length (end c ms .ready) ≡ queues (c .stealing) (c .P)
-    -- a single one is everybody's, and all look numbers are 0
+    -- a single one is everybody's, and nobody probes
     pub single : (p : ℕ) → In (c .P) p → c .stealing ≡ 0 → (works-on (end c ms) p ≡ 1) × (processor-at (end c ms) p .probe ≡ 0)
-    -- of one for each, a processor works on its own at every line but CI2, with look number 0,
+    -- of one for each, a processor that does not idle works on its own, with probe 0,
     pub own : (p : ℕ) → In (c .P) p → c .stealing ≡ 1 → same-line (processor-at (end c ms) p .position) CI2 ≡ false →
         (works-on (end c ms) p ≡ p) × (processor-at (end c ms) p .probe ≡ 0)
-    -- and at CI2 on the one that is the look number of places after its own, going round; that number is 0 to P − 1
+    -- and one that idles on the one that its probe says, from its own on round the ring
     pub idle : (p : ℕ) → In (c .P) p → c .stealing ≡ 1 → same-line (processor-at (end c ms) p .position) CI2 ≡ true →
         (works-on (end c ms) p ≡ around (c .P) (p + processor-at (end c ms) p .probe)) × (processor-at (end c ms) p .probe < c .P)

@@ -1,77 +1,77 @@
--- "Why the bench says no": each number under one name, and the rule that the first cause gives the number. 0 is no cause.
+-- The refusals: each number under one name, and the rule that the first cause of a row decides. 0 is no cause.
 -- Assumes nothing.
 use Prim.Native.Nat.{ℕ}
 use mathlib.Core.Bool.{Bool, true, false}
 
--- P, T, M, B or the choice outside its range
+-- a configuration with a number out of its range
 abbrev pub bad-config : ℕ
 bad-config = 1
 
--- no such processor
+-- a processor that there is not
 abbrev pub no-processor : ℕ
 no-processor = 2
 
--- action over 6, or operand not as the action wants it
+-- an action that there is not, or an operand that does not fit it
 abbrev pub bad-operand : ℕ
 bad-operand = 3
 
--- call elsewhere than at App
+-- a call while one is being executed
 abbrev pub call-away : ℕ
 call-away = 4
 
--- go at App
+-- a go while none is
 abbrev pub go-at-app : ℕ
 go-at-app = 5
 
--- unlock by a thread that is not the owner
+-- an unlock of another's mutex, or of nobody's
 abbrev pub not-owner : ℕ
 not-owner = 6
 
--- create of a thread that is not new (not unborn)
+-- a create of a thread that is not new
 abbrev pub not-new : ℕ
 not-new = 7
 
--- 4,000 moves stand already
+-- no room for another move
 abbrev pub full : ℕ
 full = 8
 
--- step back with no move standing
+-- a step back at the start
 abbrev pub nothing-applied : ℕ
 nothing-applied = 9
 
--- journal under 12,000 bytes, or buffer shorter than what goes into it
+-- a journal or another buffer without enough room
 abbrev pub too-short : ℕ
 too-short = 10
 
--- picture's length not exactly the picture's
+-- a picture of another length than its header asks for
 abbrev pub bad-length : ℕ
 bad-length = 11
 
--- a field, register or zero-byte rule of the picture
+-- a picture with a field out of its range, or nonzero where it has to be zero
 abbrev pub bad-field : ℕ
 bad-field = 12
 
--- a chain meets a thread twice, or one not placed there, or misses one placed there
+-- a picture whose chains are not its queues
 abbrev pub bad-chain : ℕ
 bad-chain = 13
 
--- current and transit registers (loaded and hand) disagree with statuses (places) 3 and 4
+-- a picture whose processors and threads disagree on who holds whom
 abbrev pub bad-holder : ℕ
 bad-holder = 14
 
--- session record breaks a picture rule or has B outside 1 to T, or the step would make it so
+-- a record that is not valid, or that the step would make invalid
 abbrev pub bad-record : ℕ
 bad-record = 15
 
--- at a step back and at a class, the journal's standing moves do not replay to the record
+-- a journal whose moves do not lead to the record
 abbrev pub bad-journal : ℕ
 bad-journal = 16
 
--- scripts' buffer short, or a script with over 6 calls or an action outside 1 to 6
+-- scripts that are too short or hold what is no call
 abbrev pub bad-script : ℕ
 bad-script = 19
 
--- The number `n` where its cause is there; else what comes after it in the row decides.
+-- `n` where its cause is there, else what the rest of the row says
 abbrev pub refuse : Bool → ℕ → ℕ → ℕ
 refuse true n later = n
 refuse false n later = later

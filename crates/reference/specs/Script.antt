@@ -1,4 +1,4 @@
--- Document 02, No. 7: the bytes of the scripts, a thread's progress in its script (document 02: its place), the move that a turn makes, and a class of turns.
+-- Scripts of calls (document 02, No. 7): their bytes, a thread's progress in its script, the move that a turn makes, and a class, which is a list of turns.
 -- Assumes nothing.
 use Prim.Native.Nat.{ℕ, _+_, _-_, _*_}
 use mathlib.Core.Bool.{Bool, _&&_, not}
@@ -12,9 +12,9 @@ use Rattle.reference.specs.Start.{Config, start}
 use Rattle.reference.specs.Step.{Move, move-of, action-of, next, run}
 use Rattle.reference.specs.Cause.{is-go, at-app, cause}
 use Rattle.reference.specs.Safe.{one-if}
-use Rattle.reference.specs.Snapshot.{picture}
+use Rattle.reference.specs.Picture.{picture}
 
--- ---- a script is 13 bytes, those of thread k from byte 13(k − 1) on: byte 0 says how many calls it has, bytes 2i + 1 and 2i + 2 are call i
+-- ---- a thread's script: a byte for how many calls it has, then two bytes a call, action and operand, with room for six
 
 -- byte i of thread k's script, 0 where there is none
 abbrev pub script-byte : List ℕ → ℕ → ℕ → ℕ
@@ -31,7 +31,7 @@ script-action x k i = script-byte x k (2 * i + 1)
 abbrev pub script-operand : List ℕ → ℕ → ℕ → ℕ
 script-operand x k i = script-byte x k (2 * i + 2)
 
--- at most 6 calls, each with an action 1 to 6; no other byte is looked at
+-- the calls that it says it has are calls; what stands behind them is not looked at
 unfoldable pub script-ok : List ℕ → ℕ → Bool
 script-ok x k = leb (script-length x k) 6 && each (λ i. in-range 1 6 (script-action x k i)) 0 (script-length x k)
 
@@ -39,11 +39,11 @@ script-ok x k = leb (script-length x k) 6 && each (λ i. in-range 1 6 (script-ac
 unfoldable pub scripts-ok : ℕ → List ℕ → Bool
 scripts-ok t x = leb (13 * t) (length x) && each (script-ok x) 1 t
 
--- 19, where a cause is there
+-- the cause that scripts can give
 abbrev pub scripts-cause : ℕ → List ℕ → ℕ
 scripts-cause t x = refuse (not (scripts-ok t x)) bad-script 0
 
--- ---- a thread's progress: how many calls it has made
+-- ---- a thread's progress (document 02: its place): how many calls it has made
 
 -- made in s, the move is a call of thread k: that thread is its processor's current one
 abbrev pub call-of : State → Move → ℕ → Bool
@@ -56,15 +56,15 @@ progress s (a ∷ rest) k = choose (eqb (cause s a) 0) (one-if (call-of s a k) +
 
 -- ---- a turn
 
--- the next call of thread k, which has made i; exit once it has made all
+-- what thread k calls next when it has made i calls: after the last it exits
 abbrev pub next-call : List ℕ → ℕ → ℕ → ℕ → Move
 next-call x p k i = choose (ltb i (script-length x k)) (move-of p (script-action x k i) (script-operand x k i)) (move-of p 5 0)
 
--- the move of processor p's turn in state s: at App the next call of its current thread, elsewhere go. `made` says how many calls a thread has made.
+-- the move of processor p's turn in state s: a thread outside the library makes its next call. `made` says how many calls a thread has made.
 unfoldable pub turn-move : State → (ℕ → ℕ) → List ℕ → ℕ → Move
 turn-move s made x p = choose (at-app s p) (next-call x p (processor-at s p .current) (made (processor-at s p .current))) (move-of p 0 0)
 
--- ---- a class (document 02: a class session): turns one after the other, from the start table c with the scripts x, where the moves ms stand
+-- ---- a class (document 02: class session) from the configuration c with the scripts x, where the moves ms stand already
 
 module _ (c : Config) (x : List ℕ) where
   -- the move of a turn, and its cause
@@ -74,7 +74,7 @@ module _ (c : Config) (x : List ℕ) where
   abbrev pub turn-cause : List Move → ℕ → ℕ
   turn-cause ms p = cause (run (start c) ms) (turned ms p)
 
-  -- accepted, its move stands; refused, nothing changes
+  -- an accepted turn adds its move, a refused one nothing
   abbrev pub turn-after : List Move → ℕ → List Move
   turn-after ms p = choose (eqb (turn-cause ms p) 0) (ms ++ turned ms p ∷ []) ms
 
@@ -88,7 +88,7 @@ module _ (c : Config) (x : List ℕ) where
   class-answers ms [] = []
   class-answers ms (p ∷ ps) = turn-cause ms p ∷ class-answers (turn-after ms p) ps
 
-  -- the picture after each turn, accepted or not, one behind the other
+  -- the pictures after each turn, also after a refused one
   unfoldable pub class-pictures : List Move → List ℕ → List ℕ
   class-pictures ms [] = []
   class-pictures ms (p ∷ ps) = picture (run (start c) (turn-after ms p)) ++ class-pictures (turn-after ms p) ps

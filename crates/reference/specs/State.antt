@@ -1,4 +1,4 @@
--- "A bench": the state of the machine, with queues as plain lists. Document 01 calls it a bench's state; where a thread is follows from who holds it.
+-- The state of the machine (document 01: of a bench), with queues as lists. Where a thread is follows from who holds it.
 -- Assumes nothing.
 use Prim.Native.Nat.{ℕ}
 use mathlib.Core.Bool.{Bool, _&&_, true, false}
@@ -7,7 +7,7 @@ use lib.Dec.{eqb}
 use lib.ListN.{getD}
 use Rattle.reference.specs.Lists.{at, choose, if-zero, same-list}
 
--- a token is a processor and a sequence number (document 01: a rank); (0, 0) is none
+-- a token offers a mutex: the processor that made it and its sequence number (document 01: rank), both 0 where there is none
 pub record Token : Type 0 where
   pub processor : ℕ
   pub sequence : ℕ
@@ -16,8 +16,8 @@ pub record Token : Type 0 where
 pub data Line : Type 0 where
   App CI2 CI3 L1 L3 L4 L6 L7 L8 L9 L10 TL1 GT1 GT3 TL3 U1 H2 H3 H5 H6 H8 Y1 Y2 Y3 C2 : Line
 
--- current: the loaded thread; transit: the hand, a thread in transit; observed: the seen token; sequence: its own rank;
--- probe: the look number (document 02, No. 13), which CI2 alone holds
+-- current (document 01: loaded): the thread that runs; transit (hand): one on its way; mutex: what the call is about; observed (seen): a token as it was read;
+-- sequence (own rank): that of its last token; answer: 0 none, 1 yes, 2 no; probe (document 02: look number): how many queues CI2 has found empty
 pub record Processor : Type 0 where
   pub position : Line
   pub current : ℕ
@@ -28,18 +28,19 @@ pub record Processor : Type 0 where
   pub answer : ℕ
   pub probe : ℕ
 
+-- count: the owner and those that wait or are about to
 pub record Mutex : Type 0 where
   pub count : ℕ
   pub queue : List ℕ
   pub owner : ℕ
   pub token : Token
 
--- new: unborn; live: born and not ended; terminated: ended
+-- not created yet (document 01: unborn), created, exited (ended)
 pub data Life : Type 0 where
   new live terminated : Life
 
--- P, T, M: how many processors, threads and mutexes; stealing: the choice of ready queues, 0 a single one, 1 one for each processor, who steal from each other;
--- ready: the ready queues; applied: how many moves stand
+-- P, T, M: how many processors, threads and mutexes; stealing: 0 for a single ready queue, 1 for one for each processor, who steal from each other;
+-- applied: how many moves stand
 pub record State : Type 0 where
   pub P : ℕ
   pub T : ℕ
@@ -77,7 +78,7 @@ queue-at s q = at (s .ready) q []
 abbrev pub life-at : State → ℕ → Life
 life-at s k = at (s .lives) k live
 
--- ---- "So positions run 0 to 24": each line's number, and which registers are nonzero there (1) and which are zero (0)
+-- ---- the register table: each line's number, and which registers are nonzero there (1) and which are zero (0)
 
 pub record Row : Type 0 where
   pub number : ℕ
@@ -128,7 +129,7 @@ line-of n = getD lines n App
 abbrev pub same-line : Line → Line → Bool
 same-line l n = eqb (row l .number) (row n .number)
 
--- CI2 alone holds a look number (1); elsewhere it is zero (0)
+-- 1 where the probe may be nonzero, which is at CI2 alone
 abbrev pub probes : Line → ℕ
 probes l = choose (same-line l CI2) 1 0
 

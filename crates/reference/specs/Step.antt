@@ -1,7 +1,8 @@
--- "Moves": what an accepted move gives. A move sees one processor, the mutex and the ready queue that it works on (a View), and what it makes of these is put back,
--- so that nothing else changes. Each line is document 01's, read from left to right.
+-- What an accepted move makes of the state. It sees one processor, the mutex and the ready queue that it works on (a View); what it makes of these is put back,
+-- and nothing else changes.
 -- Assumes nothing.
 use Prim.Native.Nat.{ℕ, suc, _+_, _-_, _*_, _%_}
+use mathlib.Core.Bool.{Bool}
 use mathlib.Core.List.{List, [], _∷_, _++_}
 use lib.ListN.{length, getD}
 use Rattle.reference.specs.Lists.{put, choose, if-zero, if-empty, around}
@@ -72,8 +73,8 @@ sequenced n v =
     })
     v
 
-abbrev pub answers : ℕ → View → View
-answers n v =
+abbrev pub answering : ℕ → View → View
+answering n v =
     with-proc
     (record {
       position = v .proc .position;
@@ -116,114 +117,118 @@ tokened t v = with-mutex (record { count = v .mutex .count; queue = v .mutex .qu
 
 -- ---- the transfers of a thread
 
--- hand is loaded
+-- the thread in transit becomes the current one
 abbrev pub load : View → View
 load v = threads (v .proc .transit) 0 v
 
--- loaded goes to the hand
+-- the current thread is in transit
 abbrev pub unload : View → View
 unload v = threads 0 (v .proc .current) v
 
--- thread k goes to the hand
+-- thread k is in transit
 abbrev pub carry : ℕ → View → View
 carry k v = threads (v .proc .current) k v
 
--- hand joins the ready queue
+-- the thread in transit joins the ready queue, at its end
 abbrev pub join-ready : View → View
 join-ready v = with-ready (v .ready ++ v .proc .transit ∷ []) (carry 0 v)
 
--- hand joins m's queue
+-- the thread in transit joins m's queue, at its end
 abbrev pub join-queue : View → View
 join-queue v = queued (v .mutex .queue ++ v .proc .transit ∷ []) (carry 0 v)
 
--- first of m's queue, x with the rest behind it, goes to the hand and owns m
+-- x, behind whom the rest of m's queue stays, is in transit and m's owner
 abbrev pub serve : ℕ → List ℕ → View → View
 serve x rest v = owned x (carry x (queued rest v))
 
--- this processor and its own sequence number
+-- the token that this processor made last
 abbrev pub own-token : View → Token
 own-token v = record { processor = v .self; sequence = v .proc .sequence }
 
--- a register is kept where the line's row has 1, else it is zero
-abbrev pub kept : {A : Type 0} → ℕ → A → A → A
-kept column value none = if-zero column none value
+-- the mutex's token is still the one that was observed
+abbrev pub unchanged : View → Bool
+unchanged v = same-token (v .mutex .token) (v .proc .observed)
 
--- to stand at a line: mutex and observed token are set to zero where they fall outside the register table
-abbrev pub goto : Line → View → View
-goto l v =
+-- a register keeps its value where the column has 1, else it is cleared
+abbrev pub masked : {A : Type 0} → ℕ → A → A → A
+masked column value none = if-zero column none value
+
+-- the processor goes on to a line; mutex and observed token are cleared where the line has none
+abbrev pub jump : Line → View → View
+jump l v =
     with-proc
     (record {
       position = l;
       current = v .proc .current;
       transit = v .proc .transit;
-      mutex = kept (row l .mutex) (v .proc .mutex) 0;
-      observed = kept (row l .observed) (v .proc .observed) no-token;
+      mutex = masked (row l .mutex) (v .proc .mutex) 0;
+      observed = masked (row l .observed) (v .proc .observed) no-token;
       sequence = v .proc .sequence;
       answer = v .proc .answer;
       probe = v .proc .probe;
     })
     v
 
--- ---- go executes the line
+-- ---- what a go executes, line by line
 
 unfoldable pub line : Line → View → View
--- App: go is refused there.
+-- App: the thread is outside the library, and a go is refused.
 line App v = v
--- CI2: ready queue empty: stay, and one is added to the look number, going round (of a single queue it stays 0). Else its first goes to the hand, the look number is 0; CI3.
-line CI2 v = if-empty (v .ready) (goto CI2 (probing (suc (v .proc .probe) % v .queues) v)) (λ x rest. goto CI3 (probing 0 (carry x (with-ready rest v))))
--- CI3: hand is loaded; App.
-line CI3 v = goto App (load v)
--- L1: count +1. Was 0: loaded thread owns m; App. Else L3.
-line L1 v = let w : View = counted (suc (v .mutex .count)) v in if-zero (v .mutex .count) (goto App (owned (v .proc .current) w)) (goto L3 w)
--- L3: loaded goes to the hand; L4.
-line L3 v = goto L4 (unload v)
--- L4: hand joins m's queue; L6.
-line L4 v = goto L6 (join-queue v)
--- L6: none: CI2. Else the token is seen; L7.
-line L6 v = if-zero (v .mutex .token .processor) (goto CI2 v) (goto L7 (observe (v .mutex .token) v))
--- L7: m's queue empty: CI2. Else L8.
-line L7 v = if-empty (v .mutex .queue) (goto CI2 v) (λ x rest. goto L8 v)
--- L8: token equals seen: cleared; L9. Else CI2.
-line L8 v = choose (same-token (v .mutex .token) (v .proc .observed)) (goto L9 (tokened no-token v)) (goto CI2 v)
--- L9: first of m's queue goes to the hand and owns m; L10. (No session finds the queue empty here.)
-line L9 v = if-empty (v .mutex .queue) (goto L9 v) (λ x rest. goto L10 (serve x rest v))
--- L10: hand is loaded; App.
-line L10 v = goto App (load v)
--- TL1: count 0: becomes 1, loaded owns, answer 1, App. Else GT1.
-line TL1 v = if-zero (v .mutex .count) (goto App (answers 1 (owned (v .proc .current) (counted 1 v)))) (goto GT1 v)
--- GT1: no token: answer 2, App. Else it is seen; GT3.
-line GT1 v = if-zero (v .mutex .token .processor) (goto App (answers 2 v)) (goto GT3 (observe (v .mutex .token) v))
--- GT3: token equals seen: cleared, loaded owns; TL3. Else answer 2, App.
-line GT3 v = choose (same-token (v .mutex .token) (v .proc .observed)) (goto TL3 (owned (v .proc .current) (tokened no-token v))) (goto App (answers 2 v))
--- TL3: count +1, answer 1; App.
-line TL3 v = goto App (answers 1 (counted (suc (v .mutex .count)) v))
--- U1: count −1, owner none. Was 1: App. Else H2.
-line U1 v = let w : View = owned 0 (counted (v .mutex .count - 1) v) in if-zero (v .mutex .count - 1) (goto App w) (goto H2 w)
--- H2: queue has a first: to the hand, owns m; H3. Else H5.
-line H2 v = if-empty (v .mutex .queue) (goto H5 v) (λ x rest. goto H3 (serve x rest v))
--- H3: hand joins the ready queue; App.
-line H3 v = goto App (join-ready v)
--- H5: own rank +1; token becomes (this processor, own rank); H6.
-line H5 v = let w : View = sequenced (suc (v .proc .sequence)) v in goto H6 (tokened (own-token w) w)
--- H6: queue empty: App. Else H8.
-line H6 v = if-empty (v .mutex .queue) (goto App v) (λ x rest. goto H8 v)
--- H8: token equals (this processor, own rank): cleared; H2. Else App.
-line H8 v = choose (same-token (v .mutex .token) (own-token v)) (goto H2 (tokened no-token v)) (goto App v)
--- Y1: ready queue empty: App. Else Y2.
-line Y1 v = if-empty (v .ready) (goto App v) (λ x rest. goto Y2 v)
--- Y2: loaded goes to the hand; Y3.
-line Y2 v = goto Y3 (unload v)
--- Y3: hand joins the ready queue; CI2.
-line Y3 v = goto CI2 (join-ready v)
--- C2: hand joins the ready queue; App.
-line C2 v = goto App (join-ready v)
+-- CI2: an idle processor takes a ready thread and probes from 0 again; from an empty queue the probe moves on to the next queue, round and round.
+line CI2 v = if-empty (v .ready) (jump CI2 (probing (suc (v .proc .probe) % v .queues) v)) (λ x rest. jump CI3 (probing 0 (carry x (with-ready rest v))))
+-- CI3: it runs that thread.
+line CI3 v = jump App (load v)
+-- L1: the lock call is counted; the first that is counted owns the mutex at once.
+line L1 v = let w : View = counted (suc (v .mutex .count)) v in if-zero (v .mutex .count) (jump App (owned (v .proc .current) w)) (jump L3 w)
+-- L3: its thread stops running,
+line L3 v = jump L4 (unload v)
+-- L4: and waits in the mutex's queue.
+line L4 v = jump L6 (join-queue v)
+-- L6: the processor observes the mutex's token; without one there is nothing left to do.
+line L6 v = if-zero (v .mutex .token .processor) (jump CI2 v) (jump L7 (observe (v .mutex .token) v))
+-- L7: it gives up where nobody waits: somebody else has served its thread.
+line L7 v = if-empty (v .mutex .queue) (jump CI2 v) (λ x rest. jump L8 v)
+-- L8: it claims the token, if that is still the one observed,
+line L8 v = choose (unchanged v) (jump L9 (tokened no-token v)) (jump CI2 v)
+-- L9: makes the first of the queue the owner (in no session is the queue empty here),
+line L9 v = if-empty (v .mutex .queue) (jump L9 v) (λ x rest. jump L10 (serve x rest v))
+-- L10: and runs it.
+line L10 v = jump App (load v)
+-- TL1: trylock takes a mutex on which nobody is counted.
+line TL1 v = if-zero (v .mutex .count) (jump App (answering 1 (owned (v .proc .current) (counted 1 v)))) (jump GT1 v)
+-- GT1: else it observes the token, and fails where there is none.
+line GT1 v = if-zero (v .mutex .token .processor) (jump App (answering 2 v)) (jump GT3 (observe (v .mutex .token) v))
+-- GT3: it owns the mutex by claiming the token, and fails if that is no longer the one observed.
+line GT3 v = choose (unchanged v) (jump TL3 (owned (v .proc .current) (tokened no-token v))) (jump App (answering 2 v))
+-- TL3: the new owner is counted.
+line TL3 v = jump App (answering 1 (counted (suc (v .mutex .count)) v))
+-- U1: the owner gives the mutex up and is no longer counted; if somebody else is, the mutex has to be handed on.
+line U1 v = let w : View = owned 0 (counted (v .mutex .count - 1) v) in if-zero (v .mutex .count - 1) (jump App w) (jump H2 w)
+-- H2: the first of the queue becomes the owner,
+line H2 v = if-empty (v .mutex .queue) (jump H5 v) (λ x rest. jump H3 (serve x rest v))
+-- H3: and is ready.
+line H3 v = jump App (join-ready v)
+-- H5: where nobody waits yet, a token with a new sequence number offers the mutex.
+line H5 v = let w : View = sequenced (suc (v .proc .sequence)) v in jump H6 (tokened (own-token w) w)
+-- H6: while nobody waits, the token is left to whoever comes;
+line H6 v = if-empty (v .mutex .queue) (jump App v) (λ x rest. jump H8 v)
+-- H8: else the processor takes it back to serve the queue, unless somebody has claimed it.
+line H8 v = choose (same-token (v .mutex .token) (own-token v)) (jump H2 (tokened no-token v)) (jump App v)
+-- Y1: yield has no effect where no thread is ready.
+line Y1 v = if-empty (v .ready) (jump App v) (λ x rest. jump Y2 v)
+-- Y2: its thread stops running,
+line Y2 v = jump Y3 (unload v)
+-- Y3: and is ready, behind the others.
+line Y3 v = jump CI2 (join-ready v)
+-- C2: the created thread is ready.
+line C2 v = jump App (join-ready v)
 
 -- ---- the calls
 
 pub data Action : Type 0 where
   go lock trylock unlock yield exit create : Action
 
--- a move is three bytes
+-- a move: which processor does what, and with which mutex or thread
 pub record Move : Type 0 where
   pub processor : ℕ
   pub action : ℕ
@@ -238,9 +243,9 @@ actions = go ∷ lock ∷ trylock ∷ unlock ∷ yield ∷ exit ∷ create ∷ [
 unfoldable pub action-of : ℕ → Action
 action-of n = getD actions n go
 
--- a call sets the answer to 0, and one on a mutex has that mutex from here on
-abbrev pub calls : ℕ → View → View
-calls m v =
+-- a call clears the last answer and sets the mutex that it is about, 0 for none
+abbrev pub calling : ℕ → View → View
+calling m v =
     with-proc
     (record {
       position = v .proc .position;
@@ -254,15 +259,15 @@ calls m v =
     })
     v
 
--- a call stands the processor at L1, TL1, U1, Y1, CI2 or C2; exit unloads the thread, create puts the new one in the hand
+-- a call goes to its first line; the thread of an exit is no longer current, that of a create is in transit
 unfoldable pub act : Action → ℕ → View → View
 act go o v = line (v .proc .position) v
-act lock o v = goto L1 (calls o v)
-act trylock o v = goto TL1 (calls o v)
-act unlock o v = goto U1 (calls o v)
-act yield o v = goto Y1 (calls 0 v)
-act exit o v = goto CI2 (threads 0 (v .proc .transit) (calls 0 v))
-act create o v = goto C2 (carry o (calls 0 v))
+act lock o v = jump L1 (calling o v)
+act trylock o v = jump TL1 (calling o v)
+act unlock o v = jump U1 (calling o v)
+act yield o v = jump Y1 (calling 0 v)
+act exit o v = jump CI2 (threads 0 (v .proc .transit) (calling 0 v))
+act create o v = jump C2 (carry o (calling 0 v))
 
 -- the mutex that a move works on: that of a call on one, else the processor's
 abbrev pub target : Action → ℕ → ℕ → ℕ
@@ -296,8 +301,7 @@ ended-by create k = 0
 
 -- ---- a move on the whole state
 
--- the ready queue that processor p works on: its own, and at CI2 the one that is the look number of places after it, going round.
--- Of a single queue it is that one.
+-- the ready queue that processor p works on: its own, or while it probes the one so many places further round the ring. A single queue is everybody's.
 abbrev pub works-on : State → ℕ → ℕ
 works-on s p = around (length (s .ready)) (p + probes (processor-at s p .position) * processor-at s p .probe)
 

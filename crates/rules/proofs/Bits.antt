@@ -10,7 +10,7 @@ use borrow.Author.Tests.{eqb-true, eqb-false, lt-ltb}
 use lib.Dec.{eqb}
 use lib.Pow.{pow-pos, pow-lt, pow-mono, pow-add, shl-shr, shl-exact}
 use lib.Bits.{bitOr, or-shr, or-mod, or-zero-r}
-use Rattle.rules.specs.Walk.{has-bit, with-bit}
+use Rattle.rules.specs.model.Walk.{has-bit, with-bit}
 
 abbrev bit-of : ℕ → ℕ → ℕ
 bit-of n k = n / 2 ^ k % 2

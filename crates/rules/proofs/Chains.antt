@@ -10,7 +10,7 @@ use native.Mathlib.Omega.{arith}
 use borrow.Author.Tests.{eqb-true, eq-eqb, leb-true, le-leb, not-true}
 use lib.Dec.{eqb, leb}
 use Rattle.reference.specs.Lists.{choose, in-range, each}
-use Rattle.reference.specs.Snapshot.{stands-in}
+use Rattle.reference.specs.Picture.{stands-in}
 use Rattle.reference.proofs.Tests.{both, both-left, both-right, range-true, true-range}
 use Rattle.state.specs.declared.Thread.{Thread}
 use Rattle.state.specs.Record.{chain}
@@ -19,7 +19,7 @@ use Rattle.state.proofs.Numbers.{stands, number-one, mutex-as, ready-as}
 use Rattle.reference.specs.Safe.{In}
 use Rattle.state.specs.Rules.{every, no-twice, placed-in, met, chain-ok, chains-in}
 use Rattle.rules.specs.declared.chain.Walked.{Walked}
-use Rattle.rules.specs.Walk.{has-bit, with-bit, walked, walk-from, walk-queues, queued, none-missed}
+use Rattle.rules.specs.model.Walk.{has-bit, with-bit, walked, walk-from, walk-queues, queued, none-missed}
 use Rattle.rules.proofs.Bits.{has-none, has-with}
 use Rattle.reference.proofs.Each.{each-at, each-all}
 use Rattle.rules.proofs.Logic.{either, either-left, either-right, implied, implies, never, refuted, same-tests}

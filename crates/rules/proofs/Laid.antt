@@ -11,14 +11,14 @@ use lib.Dec.{eqb, leb}
 use lib.ListN.{length, getD, set, length-set, List·getD-eq-default}
 use lib.Seq.{getD-set-same, getD-set-other}
 use Rattle.reference.specs.Lists.{choose, in-range}
-use Rattle.reference.specs.Snapshot.{stands-in}
+use Rattle.reference.specs.Picture.{stands-in}
 use Rattle.reference.proofs.Tests.{range-true, true-range}
 use Rattle.state.specs.declared.Thread.{Thread}
 use Rattle.state.specs.Record.{zero-thread, thread-in, chain}
 use Rattle.state.specs.Association.{queued-as}
 use Rattle.state.specs.Rules.{every, placed-in, met, chain-ok, chains-in}
-use Rattle.rules.specs.Bytes.{thread-in-bytes}
-use Rattle.rules.specs.Walk.{write-thread, record-bytes}
+use Rattle.rules.specs.model.Bytes.{thread-in-bytes}
+use Rattle.rules.specs.model.Walk.{write-thread, record-bytes}
 use Rattle.reference.proofs.Each.{each-agree}
 use Rattle.rules.proofs.Logic.{never}
 use Rattle.rules.proofs.Steps.{bytes-length}

@@ -10,7 +10,7 @@ use native.Mathlib.Omega.{arith}
 use borrow.Author.Tests.{le-leb, eqb-true, eq-eqb, not-true}
 use lib.Dec.{eqb, leb}
 use Rattle.reference.specs.Lists.{choose, sum, is}
-use Rattle.reference.specs.Snapshot.{stands-in}
+use Rattle.reference.specs.Picture.{stands-in}
 use Rattle.reference.proofs.Tests.{both, both-left, both-right}
 use Rattle.state.specs.Rules.{every, no-twice}
 use Rattle.rules.proofs.Logic.{either, either-left, either-right, never, refuted}

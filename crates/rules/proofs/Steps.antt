@@ -11,7 +11,7 @@ use Rattle.state.specs.declared.Thread.{Thread}
 use Rattle.state.specs.Record.{thread-in}
 use Rattle.state.specs.Rules.{placed-in}
 use Rattle.rules.specs.declared.chain.Walked.{Walked}
-use Rattle.rules.specs.Walk.{has-bit, with-bit, walked, walk-from, after, walk-queues, write-thread, record-bytes}
+use Rattle.rules.specs.model.Walk.{has-bit, with-bit, walked, walk-from, after, walk-queues, write-thread, record-bytes}
 
 module _ (thread : ℕ → Thread) (q : ℕ) where
   pub walk-none : (k met : ℕ) → walk-from thread q 0 k met ≡ walked true met

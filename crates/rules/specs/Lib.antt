@@ -1,4 +1,2 @@
--- The thread records as bytes, and the models that inner contracts cite.
-pub mod Bytes
-pub mod Walk
-pub mod Holder
+-- Models only: the rules themselves are in state/specs/Rules.antt.
+pub mod model

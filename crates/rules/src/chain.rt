@@ -3,10 +3,11 @@ ghost use mathlib.Core.Path.{_≡_};
 ghost use lib.ListN.{getD};
 ghost use Rattle.state.specs.Record.{thread-in};
 ghost use Rattle.state.specs.Rules.{placed-in, chains-in};
-ghost use Rattle.rules.specs.Bytes.{thread-in-bytes};
-ghost use Rattle.rules.specs.Walk.{has-bit, with-bit, walk-from, walk-queues, queued, none-missed, record-bytes};
+ghost use Rattle.rules.specs.model.Bytes.{thread-in-bytes};
+ghost use Rattle.rules.specs.model.Walk.{has-bit, with-bit, walk-from, walk-queues, queued, none-missed, record-bytes};
 use state::Thread;
 use state::chain::first_at;
+use state::layout::Width;
 use state::queues::get;
 use state::queues::queued_in;
 
@@ -35,7 +36,7 @@ pub(crate) fn thread_in_bytes(threads: &[u8], k: u8) -> Thread
 {
     let there = (1 <= k) & (k <= 32);
     if there {
-        let at = 4 * ((k as usize) - 1);
+        let at = Width::THREAD * ((k as usize) - 1);
         Thread {
             status: get(threads, at),
             holder: get(threads, at + 1),
@@ -136,7 +137,7 @@ pub(crate) fn record_bytes(threads: [Thread; 33]) -> [u8; 128]
     let mut k: usize = 0;
     while k < 32 {
         let x = threads[k + 1];
-        let at = 4 * k;
+        let at = Width::THREAD * k;
         bytes[at] = x.status;
         bytes[at + 1] = x.holder;
         bytes[at + 2] = x.next;

@@ -5,7 +5,6 @@ ghost use lib.ListN.{getD};
 ghost use Rattle.state.specs.Record.{thread-in, processor-in, mutex-in};
 ghost use Rattle.reference.specs.Lists.{in-range, each};
 ghost use Rattle.state.specs.Rules.{token-ok, probe-ok, processor-ok, mutex-ok, holder-ok, next-ok, thread-ok, first-ok, fields-ok};
-ghost use Rattle.reference.specs.State.{queues};
 use crate::register;
 use state::Mutex;
 use state::Processor;

@@ -3,7 +3,7 @@ ghost use mathlib.Core.Path.{_≡_};
 ghost use Rattle.state.specs.Record.{thread-in, processor-in};
 ghost use Rattle.state.specs.Rules.{holders-ok};
 ghost use Rattle.reference.specs.Lists.{each};
-ghost use Rattle.rules.specs.Holder.{register-holds, registers-hold, thread-held};
+ghost use Rattle.rules.specs.model.Holder.{register-holds, registers-hold, thread-held};
 use state::Processor;
 use state::State;
 use state::Thread;

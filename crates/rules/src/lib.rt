@@ -10,12 +10,7 @@ mod zero;
 
 use state::Session;
 use state::State;
-
-const BAD_FIELD: u8 = 12;
-
-const BAD_CHAIN: u8 = 13;
-
-const BAD_HOLDER: u8 = 14;
+use state::refusal::Refusal;
 
 // The first rule of a picture that the record breaks, or 0.
 pub fn broken_rule(s: State) -> u8
@@ -23,18 +18,18 @@ pub fn broken_rule(s: State) -> u8
 {
     let fields = field::fields_ok(s);
     if !fields {
-        return BAD_FIELD;
+        return Refusal::BAD_FIELD;
     }
     let chains = s.chains;
     let threads = chains.threads;
     let firsts = chains.firsts;
     let chained = chain::record_chains_ok(threads, firsts, s.t);
     if !chained {
-        return BAD_CHAIN;
+        return Refusal::BAD_CHAIN;
     }
     let held = holder::holders_ok(s);
     if !held {
-        return BAD_HOLDER;
+        return Refusal::BAD_HOLDER;
     }
     0
 }

@@ -7,17 +7,15 @@ use mathlib.Core.Path.{_≡_, refl, sym, ap, _∙_}
 use native.Mathlib.Omega.{arith}
 use lib.Dec.{eqb, leb}
 use lib.ListN.{length, take}
-use borrow.Author.Tests.{lt-ltb, le-ltb, ltb-false, eq-eqb, ne-eqb, not-false}
-use Rattle.session.specs.declared.Answer.{Answer}
+use borrow.Author.Tests.{lt-ltb, le-ltb, ltb-false, ne-eqb, not-false}
 use Rattle.state.specs.declared.Session.{Session}
-use Rattle.state.specs.Record.{zero-session}
-use Rattle.state.specs.Association.{encode, decode, session-record}
-use Rattle.state.specs.Rules.{state-ok, session-ok}
-use Rattle.state.specs.Model.{start-record}
-use Rattle.state.proofs.Sized.{Sized}
+use Rattle.state.specs.Record.{zero-session, Sized}
+use Rattle.state.specs.Association.{encode, decode}
+use Rattle.state.specs.Rules.{session-ok}
+use Rattle.state.specs.model.Access.{start-record}
 use Rattle.state.proofs.Started.{start-shown}
 use Rattle.reference.specs.Lists.{in-range, choose}
-use Rattle.reference.specs.Start.{Config, config-cause, start}
+use Rattle.reference.specs.Start.{Config, config-cause}
 use Rattle.reference.specs.Step.{Move, next}
 use Rattle.reference.specs.Session.{short}
 use Rattle.reference.proofs.Tests.{passed}
@@ -25,7 +23,7 @@ use Rattle.reference.proofs.Legal.{legal}
 use Rattle.shown.proofs.Kept.{state-kept, fields-say}
 use Rattle.shown.proofs.Unique.{session-held}
 use Rattle.step.specs.declared.Moved.{Moved}
-use Rattle.step.specs.Model.{moved-of}
+use Rattle.step.specs.model.Moves.{moved-of}
 use Rattle.agreement.proofs.Moved.{refusal, not-refused, moved-valid}
 use Rattle.session.specs.Contract.{shown, started, lent-refusal, move-refusal, moved, written-at, journal-after, front}
 

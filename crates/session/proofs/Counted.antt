@@ -13,13 +13,13 @@ use Rattle.state.specs.declared.State.{State as Record}
 use Rattle.state.specs.declared.Processor as declared
 use Rattle.state.specs.Record.{processor-of}
 use Rattle.state.specs.Association.{encode}
-use Rattle.state.specs.Model.{start-record}
+use Rattle.state.specs.model.Access.{start-record}
 use Rattle.state.proofs.Table.{tabulate-same, tabulate-all}
 use Rattle.association.proofs.Tables.{tabulate-set, tabulate-read}
 use Rattle.association.proofs.Shown.{read-processor}
 use Rattle.shown.proofs.Regular.{Regular, regular-fits, allowed-regular}
 use Rattle.shown.proofs.Reached.{reached-allowed}
-use Rattle.step.specs.Model.{up-to, moved-at, run-of, noted, noted-at, counted-of}
+use Rattle.step.specs.model.Moves.{up-to, moved-at, run-of, noted, noted-at, counted-of}
 use Rattle.step.proofs.InPlace.{Ends, run-ends}
 use Rattle.agreement.proofs.View.{by-action}
 use Rattle.reference.specs.Lists.{choose, tabulate}

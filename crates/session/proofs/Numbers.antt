@@ -17,7 +17,7 @@ use Rattle.reference.specs.Session.{moves, short, replays, state-of}
 use Rattle.reference.proofs.Same.{same-state-exact}
 use Rattle.reference.proofs.Laws.{good}
 use Rattle.reference.proofs.Break.{never-breaks}
-use Rattle.session.specs.Contract.{shown, lent-refusal, or-later, move-refusal, replayed, undo-refusal}
+use Rattle.session.specs.Contract.{shown, lent-refusal, or-later, move-refusal, matches, undo-refusal}
 use Rattle.session.proofs.Standing.{moves-front}
 use Rattle.session.proofs.Shown.{record-right}
 use Rattle.session.proofs.Holding.{Holds, shown-is, config-is, applied-held}
@@ -41,11 +41,11 @@ module _ (c : Config) (right : config-cause c ≡ 0) (ms : List Move) (r : Sessi
   lent-number size n = rw keeps-rules (or-refuse (short size) 9 n)
 
   -- the test of the session's own journal, and of any that is lent
-  pub replayed-is : (o : List ℕ) → replayed r o ≡ replays (start c) (moves (length ms) o) (state-of c ms)
-  unfolding replayed
+  pub replayed-is : (o : List ℕ) → matches r o ≡ replays (start c) (moves (length ms) o) (state-of c ms)
+  unfolding matches
   replayed-is o = λ i. replays (start (config-is c right ms r j h i)) (moves (applied-held c right ms r j h i) o) (shown-is c right ms r j h i)
 
-  pub own-replays : replayed r j ≡ true
+  pub own-replays : matches r j ≡ true
   unfolding replays
   own-replays = replayed-is j ∙ rw (moves-front ms j (h .whole), h .legal) (same-state-exact .itself (state-of c ms))
 
@@ -60,8 +60,8 @@ module _ (c : Config) (right : config-cause c ≡ 0) (ms : List Move) (r : Sessi
   unfolding move-refusal
   move-number o a = lent-number (length o) _ ∙ ap (refuse (short (length o)) 10) (cause-is a)
 
-  pub undo-number : (o : List ℕ) → undo-refusal r o ≡ refuse (short (length o)) 10 (refuse (eqb (length ms) 0) 9 (refuse (not (replayed r o)) 16 0))
+  pub undo-number : (o : List ℕ) → undo-refusal r o ≡ refuse (short (length o)) 10 (refuse (eqb (length ms) 0) 9 (refuse (not (matches r o)) 16 0))
   unfolding undo-refusal
   undo-number o =
       lent-number (length o) _ ∙
-      ap (λ (n : ℕ). refuse (short (length o)) 10 (refuse (eqb n 0) 9 (refuse (not (replayed r o)) 16 0))) (applied-held c right ms r j h)
+      ap (λ (n : ℕ). refuse (short (length o)) 10 (refuse (eqb n 0) 9 (refuse (not (matches r o)) 16 0))) (applied-held c right ms r j h)

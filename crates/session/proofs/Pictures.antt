@@ -1,8 +1,8 @@
 -- Two states with the same picture are the same.
 -- Assumes nothing.
-use Prim.Native.Nat.{ℕ, _+_, _*_, _≤_}
+use Prim.Native.Nat.{ℕ, _≤_}
 use mathlib.Core.Bool.{true}
-use mathlib.Core.List.{List, [], _∷_, _++_}
+use mathlib.Core.List.{List}
 use mathlib.Core.Path.{_≡_, refl, sym, ap, _∙_}
 use native.Mathlib.Omega.{arith}
 use lib.ListN.{length, take, getD, replicate, length-replicate}
@@ -10,12 +10,12 @@ use borrow.Author.Tests.{le-ltb}
 use Rattle.state.specs.declared.State.{State}
 use Rattle.state.specs.Association.{decode}
 use Rattle.state.specs.Rules.{state-ok}
-use Rattle.state.proofs.Sized.{Sized}
-use Rattle.reference.specs.Snapshot.{picture}
+use Rattle.state.specs.Record.{Sized}
+use Rattle.reference.specs.Picture.{picture}
 use Rattle.shown.proofs.Kept.{state-kept, fields-say}
-use Rattle.snapshot.specs.declared.answer.Read.{Read}
-use Rattle.snapshot.specs.Snapshot.{picture-length, write-refusal, written, read}
-use Rattle.snapshot.proofs.RoundTrip.{written-reads}
+use Rattle.picture.specs.declared.answer.Read.{Read}
+use Rattle.picture.specs.Picture.{picture-length, write-refusal, written, read}
+use Rattle.picture.proofs.RoundTrip.{written-reads}
 
 -- the buffer that both pictures are written into
 unfoldable pub blank : List ℕ

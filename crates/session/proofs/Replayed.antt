@@ -11,14 +11,13 @@ use lib.Seq.{getD-drop}
 use borrow.Author.Tests.{ne-eqb, eq-eqb, eqb-true, eqb-false}
 use Rattle.state.specs.declared.State.{State as Record}
 use Rattle.state.specs.Association.{encode}
-use Rattle.state.specs.Model.{start-record}
+use Rattle.state.specs.model.Access.{start-record}
 use Rattle.state.proofs.Started.{start-shown}
 use Rattle.step.specs.declared.Moved.{Moved}
-use Rattle.step.specs.Model.{moved-of, run-of, counted-of}
+use Rattle.step.specs.model.Moves.{moved-of, run-of, counted-of}
 use Rattle.step.proofs.InPlace.{Ends, run-ends}
 use Rattle.reference.specs.Start.{Config, config-cause, start}
 use Rattle.reference.proofs.Moves.{run-snoc, accepted-snoc}
-use Rattle.session.specs.Replay.{Replays}
 use Rattle.session.proofs.Reached.{made-of, moved-reached}
 use Rattle.reference.specs.State.{State}
 use Rattle.reference.specs.Step.{Move, next, run}
@@ -35,10 +34,6 @@ move-later j i =
     let b : getD (drop 3 j) (3 * i + 1) 0 ≡ getD j (3 * suc i + 1) 0 = getD-drop 3 j (3 * i + 1) 0 ∙ ap (λ (n : ℕ). getD j n 0) (omega arith) in
     let c : getD (drop 3 j) (3 * i + 2) 0 ≡ getD j (3 * suc i + 2) 0 = getD-drop 3 j (3 * i + 2) 0 ∙ ap (λ (n : ℕ). getD j n 0) (omega arith) in
     (λ k. record { processor = a k; action = b k; operand = c k })
-
-pub moves-none : (j : List ℕ) → moves 0 j ≡ []
-unfolding moves
-moves-none j = refl
 
 -- one more move of a journal
 pub moves-more : (n : ℕ) (j : List ℕ) → moves (n + 1) j ≡ moves n j ++ move-at j n ∷ []
@@ -82,7 +77,12 @@ refused-on (b ∷ ms) s a rest h = rw (refused-on ms (next s b) a rest h) (none 
     none true = refl
     none false = refl
 
--- ---- the code's replay, after i moves
+-- what a run over a list of moves from a start table finds: whether all are accepted, and then the record of the state after them
+pub record Made (c : Config) (ms : List Move) (all : Bool) (s : Record) : Type 0 where
+  pub accepts : all ≡ accepted (start c) ms
+  pub state : all ≡ true → s ≡ encode (run (start c) ms)
+
+-- ---- the code's run, after i moves
 
 pub record Going (c : Config) (j : List ℕ) (i : ℕ) (s : Record) : Type 0 where
   pub all : accepted (start c) (moves i j) ≡ true
@@ -111,16 +111,16 @@ module _ (c : Config) (right : config-cause c ≡ 0) (j : List ℕ) where
           state = ap (λ (x : Moved). x .state) made ∙ rw (eq-eqb (cause (run (start c) (moves i j)) (move-at j i)) 0 n, moves-more i j, run-snoc (moves i j) (start c) (move-at j i));
         }
 
-    pub going-stop : (n : ℕ) → i < n → (r .refusal ≡ 0 → ⊥) → Replays c (moves n j) (record { all = false; state = s })
+    pub going-stop : (n : ℕ) → i < n → (r .refusal ≡ 0 → ⊥) → Made c (moves n j) false s
     going-stop n h z =
         let m = moves-on n i j h in
         record {
-          all = sym (rw (m .1) (refused-on (moves i j) (start c) (move-at j i) (m .0) (λ x. z (caused ∙ x))));
+          accepts = sym (rw (m .1) (refused-on (moves i j) (start c) (move-at j i) (m .0) (λ x. z (caused ∙ x))));
           state = λ x. absurd (true≢false (sym x));
         }
 
-  pub going-end : (n : ℕ) (s : Record) → Going c j n s → Replays c (moves n j) (record { all = true; state = s })
-  going-end n s g = record { all = sym (g .all); state = λ x. g .state }
+  pub going-end : (n : ℕ) (s : Record) → Going c j n s → Made c (moves n j) true s
+  going-end n s g = record { accepts = sym (g .all); state = λ x. g .state }
 
 -- the moves of a journal lie in its front
 pub moves-front : (n : ℕ) (j : List ℕ) → 3 * n ≤ length j → moves n (take (3 * n) j) ≡ moves n j
@@ -133,7 +133,7 @@ moves-front (suc n) (x ∷ y ∷ z ∷ j) h =
     let e : 3 * suc n ≡ suc (suc (suc (3 * n))) = omega arith in
     rw (e, moves-front n j (omega arith))
 
--- ---- the code's replay, as a whole
+-- ---- the code's run, as a whole
 
 module _ (c : Config) (right : config-cause c ≡ 0) (n : ℕ) (j : List ℕ) (h : 3 * n ≤ length j) where
   abbrev front : List ℕ
@@ -150,10 +150,10 @@ module _ (c : Config) (right : config-cause c ≡ 0) (n : ℕ) (j : List ℕ) (h
     ends : Ends front keeps n (λ i r calls g l z. going-more c right front i r g _ refl z) (run-of s front) (counted-of s front [])
     ends = rw front-moves (run-ends front keeps n (λ i r calls g l z. going-more c right front i r g _ refl z) n 0 s [] (going-start c right front s e) (omega arith))
 
-    pub replayed : Replays c (moves n j) (record { all = eqb (run-of s front .refusal) 0; state = run-of s front .state })
-    replayed = rw (← moves-front n j h) (by (eqb (run-of s front .refusal) 0) refl)
+    pub made-all : Made c (moves n j) (eqb (run-of s front .refusal) 0) (run-of s front .state)
+    made-all = rw (← moves-front n j h) (by (eqb (run-of s front .refusal) 0) refl)
       where
-        by : (b : Bool) → eqb (run-of s front .refusal) 0 ≡ b → Replays c (moves n front) (record { all = b; state = run-of s front .state })
+        by : (b : Bool) → eqb (run-of s front .refusal) 0 ≡ b → Made c (moves n front) b (run-of s front .state)
         by true t =
             let z = eqb-true (run-of s front .refusal) 0 t in
             going-end c right front n (run-of s front .state) (subst (λ (i : ℕ). Going c front i (run-of s front .state)) (ends .whole z) (ends .reached))

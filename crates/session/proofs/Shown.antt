@@ -13,7 +13,7 @@ use Rattle.state.specs.Allowed.{Allowed}
 use Rattle.reference.specs.Start.{Config, config-cause, start}
 use Rattle.reference.specs.Step.{Move}
 use Rattle.reference.specs.Cause.{accepted}
-use Rattle.reference.specs.Snapshot.{picture}
+use Rattle.reference.specs.Picture.{picture}
 use Rattle.reference.specs.Lists.{with-front}
 use Rattle.reference.specs.Session.{state-of, picture-size}
 use Rattle.reference.specs.Safe.{In}
@@ -22,8 +22,8 @@ use Rattle.reference.proofs.Laws.{sized}
 use Rattle.shown.proofs.Decode.{decode-encode, encode-ok}
 use Rattle.shown.proofs.Reached.{reached-allowed}
 use Rattle.shown.proofs.Unique.{session-record-ok, encode-sized}
-use Rattle.snapshot.specs.Snapshot.{picture-length, write-refusal, written}
-use Rattle.snapshot.proofs.RoundTrip as picture
+use Rattle.picture.specs.Picture.{picture-length, write-refusal, written}
+use Rattle.picture.proofs.RoundTrip as picture
 
 module _ (c : Config) (ms : List Move) (right : config-cause c ≡ 0) (ok : accepted (start c) ms ≡ true) where
   allowed : Allowed (state-of c ms)

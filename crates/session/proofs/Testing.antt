@@ -1,24 +1,21 @@
 -- What the journal's test finds, case by case: the shape in which its code arrives at it.
 -- Assumes nothing.
 use Prim.Native.Nat.{ℕ, zero, suc, _*_}
-use mathlib.Core.Bool.{Bool, true, false, not}
+use mathlib.Core.Bool.{Bool, not}
 use mathlib.Core.List.{List}
-use mathlib.Core.Path.{_≡_, refl, sym, _∙_}
+use mathlib.Core.Path.{_≡_, refl, _∙_}
 use native.Mathlib.Omega.{arith}
 use lib.ListN.{length, replicate, take}
-use Rattle.session.specs.declared.replay.Replayed.{Replayed}
 use Rattle.state.specs.declared.Session.{Session}
 use Rattle.state.specs.Association.{decode}
-use Rattle.state.specs.Model.{start-record}
-use Rattle.state.proofs.Sized.{Sized}
-use Rattle.step.specs.Model.{counted-of}
+use Rattle.state.specs.model.Access.{start-record}
+use Rattle.state.specs.Record.{Sized}
+use Rattle.step.specs.model.Moves.{counted-of}
 use Rattle.reference.specs.Refusal.{refuse}
-use Rattle.reference.specs.Session.{replays}
-use Rattle.session.specs.Contract.{config-of, lent-refusal, standing, replayed, tested}
-use Rattle.session.specs.Replay.{Replays}
+use Rattle.session.specs.Contract.{config-of, lent-refusal, standing, matches, tested}
 use Rattle.session.proofs.Answers.{lent-passed}
 use Rattle.session.proofs.Counted.{calls-of, counted-is}
-use Rattle.session.proofs.Undone.{config-right, applied-most, given-replays}
+use Rattle.session.proofs.Undone.{config-right, applied-most}
 
 module _ (r : Session) (j : List ℕ) where
   -- 10 or 15
@@ -36,20 +33,8 @@ module _ (r : Session) (j : List ℕ) where
       let h = lent-passed r (length j) free in
       e ∙ counted-is (config-of r) (config-right r size (h .1)) (r .state .applied) j (omega (arith, h .0, applied-most r size (h .1))) _ refl
 
-  module _ (size : Sized (r .state)) (free : lent-refusal r (length j) ≡ 0) (calls : List ℕ) (calls-are : calls ≡ calls-of (config-of r) (standing r j))
-      (found : Replayed) (h : Replays (config-of r) (standing r j) found) where
-    tested-by : (b : Bool) → b ≡ replayed r j → record { refusal = refuse (not b) 16 0; calls = calls } ≡ tested r j
-    unfolding tested
-    tested-by b e = rw (free, ← e, calls-are)
-
-    -- a move is refused
-    pub tested-none : found .all ≡ false → record { refusal = 16; calls = calls } ≡ tested r j
-    unfolding replayed replays
-    tested-none e = tested-by false (sym (rw (sym (h .all) ∙ e)))
-
-    -- they are all accepted: the records are compared
-    pub tested-all : found .all ≡ true → (b : Bool) → (b ≡ true → found .state ≡ r .state) → (found .state ≡ r .state → b ≡ true) →
-        record { refusal = refuse (not b) 16 0; calls = calls } ≡ tested r j
-    unfolding replayed
-    tested-all e b f g =
-        tested-by b (given-replays r size (lent-passed r (length j) free .1) (standing r j) (sym (h .all) ∙ e) (found .state) (h .state e) b f g)
+  -- 16, or none
+  pub tested-by : lent-refusal r (length j) ≡ 0 → (calls : List ℕ) → calls ≡ calls-of (config-of r) (standing r j) →
+      (b : Bool) → b ≡ matches r j → record { refusal = refuse (not b) 16 0; calls = calls } ≡ tested r j
+  unfolding tested
+  tested-by free calls are b e = rw (free, ← e, are)

@@ -1,39 +1,40 @@
--- What a step back finds, case by case: the shape in which its code arrives at it.
+-- What a replay of the journal and a step back find, case by case: the shape in which the code arrives at it.
 -- Assumes nothing.
 use Prim.Native.Nat.{ℕ, zero, suc, _+_, _-_, _*_, _≤_}
-use mathlib.Core.Bool.{Bool, true, false, _&&_, not, true≢false}
-use mathlib.Core.List.{List, [], _∷_, _++_}
+use mathlib.Core.Bool.{Bool, true, false, not, true≢false}
+use mathlib.Core.List.{List}
 use mathlib.Core.Path.{_≡_, refl, sym, ap, _∙_}
 use native.Mathlib.Omega.{arith}
 use lib.Dec.{eqb}
-use lib.ListN.{length, getD}
+use lib.ListN.{length, take, drop}
 use borrow.Author.Tests.{le-leb, eq-eqb, ne-eqb}
-use Rattle.session.specs.declared.replay.Replayed.{Replayed}
+use Rattle.session.specs.declared.replay.Found.{Found}
 use Rattle.state.specs.declared.Session.{Session}
 use Rattle.state.specs.declared.State.{State as Record}
 use Rattle.state.specs.Association.{encode, decode}
 use Rattle.state.specs.Rules.{state-ok, session-ok}
 use Rattle.state.specs.Allowed.{Allowed}
-use Rattle.state.proofs.Sized.{Sized}
-use Rattle.step.specs.declared.Moved.{Moved}
-use Rattle.step.specs.Model.{moved-of}
+use Rattle.state.specs.Record.{Sized}
+use Rattle.state.specs.model.Access.{start-record}
+use Rattle.step.specs.declared.Run.{Run}
+use Rattle.step.specs.model.Moves.{run-of, counted-of}
+use Rattle.step.proofs.Split.{Alike, both-made, front-refused}
 use Rattle.reference.specs.Refusal.{refuse}
-use Rattle.reference.specs.State.{State, same-state}
+use Rattle.reference.specs.State.{same-state}
 use Rattle.reference.specs.Start.{Config, config-cause, start}
-use Rattle.reference.specs.Step.{Move, next, run}
-use Rattle.reference.specs.Cause.{cause, accepted}
+use Rattle.reference.specs.Step.{Move, run}
+use Rattle.reference.specs.Cause.{accepted}
 use Rattle.reference.specs.Session.{moves, all-but-last, replays}
 use Rattle.reference.proofs.Tests.{true-range}
 use Rattle.reference.proofs.Same.{same-state-exact}
-use Rattle.reference.proofs.Moves.{run-snoc, accepted-snoc}
 use Rattle.shown.proofs.Kept.{state-kept, fields-say}
 use Rattle.shown.proofs.Decode.{decode-encode, encode-ok}
 use Rattle.shown.proofs.Reached.{reached-allowed}
 use Rattle.shown.proofs.Unique.{session-held}
-use Rattle.session.specs.Contract.{shown, config-of, or-later, lent-refusal, standing, replayed, undo-refusal, undone}
-use Rattle.session.specs.Replay.{Replays, BeforeLast}
-use Rattle.session.proofs.Reached.{made-of, moved-reached}
-use Rattle.session.proofs.Replayed.{move-at, moves-more, moves-but-last, refused-on}
+use Rattle.session.specs.Contract.{shown, config-of, lent-refusal, standing, matches, undo-refusal, undone}
+use Rattle.session.specs.model.Replay.{Replays}
+use Rattle.session.proofs.Answers.{lent-passed}
+use Rattle.session.proofs.Replayed.{Made, made-all, moves-but-last}
 
 -- ---- a record that keeps the rules
 
@@ -88,74 +89,101 @@ module _ (r : Session) (size : Sized (r .state)) (ok : session-ok r ≡ true) (m
   unfolding replays
   given-replays b f g = alike-is b f g ∙ sym (rw legal)
 
--- a list whose front is not accepted is not
-longer-refused : (ms : List Move) (s : State) (rest : List Move) → accepted s ms ≡ false → accepted s (ms ++ rest) ≡ false
-unfolding accepted
-longer-refused [] s rest h = absurd (true≢false h)
-longer-refused (a ∷ ms) s rest h = by (eqb (cause s a) 0) h (longer-refused ms (next s a) rest)
-  where
-    by : (b : Bool) {x y : Bool} → b && x ≡ false → (x ≡ false → y ≡ false) → b && y ≡ false
-    by true k f = f k
-    by false k f = refl
+-- ---- the journal's standing moves, the first k and then the others
 
-module _ (r : Session) (size : Sized (r .state)) (ok : session-ok r ≡ true) (j : List ℕ) (n : ℕ) (found : Replayed)
-    (h : Replays (config-of r) (moves n j) found) where
+module _ (r : Session) (size : Sized (r .state)) (j : List ℕ) (free : lent-refusal r (length j) ≡ 0) (k : ℕ) (within : k ≤ r .state .applied) where
   abbrev c : Config
   c = config-of r
+
+  abbrev n : ℕ
+  n = r .state .applied
+
+  -- the code's runs: of all, of the first k, and of the others
+  abbrev first : Record
+  first = start-record (c .P) (c .T) (c .M) (c .B) (c .stealing)
+
+  abbrev all : Run
+  all = run-of first (take (3 * n) j)
+
+  abbrev front : Run
+  front = run-of first (take (3 * k) j)
+
+  abbrev rest : Run
+  rest = run-of (front .state) (take (3 * n - 3 * k) (drop (3 * k) j))
+
+  ok : session-ok r ≡ true
+  ok = lent-passed r (length j) free .1
+
+  pub journal-long : 3 * n ≤ length j
+  journal-long = omega (arith, lent-passed r (length j) free .0, applied-most r size ok)
 
   right : config-cause c ≡ 0
   right = config-right r size ok
 
-  not-accepted : accepted (start c) (moves (n + 1) j) ≡ false → false ≡ replays (start c) (moves (n + 1) j) (shown r)
-  unfolding replays
-  not-accepted e = rw e
+  made : (m : ℕ) → 3 * m ≤ length j → Made c (moves m j) (eqb (run-of first (take (3 * m) j) .refusal) 0) (run-of first (take (3 * m) j) .state)
+  made m h = made-all c right m j h first refl
 
-  -- the front of the moves is refused
-  pub found-none : found .all ≡ false → BeforeLast r j n (record { all = false; state = found .state })
-  found-none e =
-      record {
-        all = not-accepted (rw (moves-more n j) (longer-refused (moves n j) (start c) (move-at j n ∷ []) (sym (h .all) ∙ e)));
-        state = λ x. absurd (true≢false (sym x));
-      }
+  -- not all are accepted
+  unmatched : (all .refusal ≡ 0 → ⊥) → false ≡ matches r j
+  unfolding matches replays decode
+  unmatched z =
+      let e : accepted (start c) (moves n j) ≡ false = sym (made n journal-long .accepts) ∙ ne-eqb (all .refusal) 0 z in
+      rw e
 
-  module _ (all : found .all ≡ true) (made : Moved)
-      (e : made ≡ moved-of (found .state) (getD j (3 * n) 0) (getD j (3 * n + 1) 0) (getD j (3 * n + 2) 0)) where
-    front : accepted (start c) (moves n j) ≡ true
-    front = sym (h .all) ∙ all
+  none : (s : Record) → (all .refusal ≡ 0 → ⊥) → Replays r j k (record { agrees = false; state = s })
+  none s z = record { agrees = unmatched z; state = λ x. absurd (true≢false (sym x)) }
 
-    is : made ≡ made-of (run (start c) (moves n j)) (move-at j n)
-    is =
-        e ∙ ap (λ (x : Record). moved-of x (getD j (3 * n) 0) (getD j (3 * n + 1) 0) (getD j (3 * n + 2) 0)) (h .state all) ∙
-        moved-reached c (moves n j) right front (move-at j n)
+  -- f: the run of the first k; calls: what was counted before it
+  module _ (f : Run) (f-is : f ≡ front) (calls : List ℕ) where
+    refusal-is : f .refusal ≡ front .refusal
+    refusal-is = ap (λ (x : Run). x .refusal) f-is
 
-    number : made .refusal ≡ cause (run (start c) (moves n j)) (move-at j n)
-    number = ap (λ (x : Moved). x .refusal) is
+    pub front-ends : (f .refusal ≡ 0 → ⊥) →
+        Replays r j k (record { agrees = false; state = f .state }) × (counted-of first (take (3 * k) j) calls ≡ counted-of first (take (3 * n) j) calls)
+    front-ends z =
+        let w = front-refused j k n within journal-long first calls (λ e. z (refusal-is ∙ e)) in
+        (none (f .state) (λ e. z (refusal-is ∙ sym (w .refusal) ∙ e)), sym (w .counts))
 
-    -- the last is refused
-    pub last-refused : (made .refusal ≡ 0 → ⊥) → BeforeLast r j n (record { all = false; state = found .state })
-    last-refused z =
-        record {
-          all = not-accepted (rw (moves-more n j) (refused-on (moves n j) (start c) (move-at j n) [] (λ x. z (number ∙ x))));
-          state = λ x. absurd (true≢false (sym x));
-        }
+    -- g: the run of the others
+    module _ (z : f .refusal ≡ 0) (g : Run) (g-is : g ≡ run-of (f .state) (take (3 * n - 3 * k) (drop (3 * k) j))) where
+      both : Alike all rest (counted-of first (take (3 * n) j) calls)
+          (counted-of (front .state) (take (3 * n - 3 * k) (drop (3 * k) j)) (counted-of first (take (3 * k) j) calls))
+      both = both-made j k n within journal-long first calls (sym refusal-is ∙ z)
 
-    module _ (taken : made .refusal ≡ 0) where
-      none : cause (run (start c) (moves n j)) (move-at j n) ≡ 0
-      none = sym number ∙ taken
+      g-rest : g ≡ rest
+      g-rest = g-is ∙ ap (λ (x : Run). run-of (x .state) (take (3 * n - 3 * k) (drop (3 * k) j))) f-is
 
-      whole : accepted (start c) (moves (n + 1) j) ≡ true
-      whole = rw (moves-more n j) (accepted-snoc (moves n j) (start c) (move-at j n) front none)
+      over-is : g .refusal ≡ all .refusal
+      over-is = ap (λ (x : Run). x .refusal) g-rest ∙ sym (both .refusal)
 
-      state-is : made .state ≡ encode (run (start c) (moves (n + 1) j))
-      state-is =
-          ap (λ (x : Moved). x .state) is ∙
-          rw (eq-eqb (cause (run (start c) (moves n j)) (move-at j n)) 0 none, moves-more n j, run-snoc (moves n j) (start c) (move-at j n))
+      pub counts-are : counted-of (f .state) (take (3 * n - 3 * k) (drop (3 * k) j)) (counted-of first (take (3 * k) j) calls) ≡ counted-of first (take (3 * n) j) calls
+      counts-are =
+          ap (λ (x : Run). counted-of (x .state) (take (3 * n - 3 * k) (drop (3 * k) j)) (counted-of first (take (3 * k) j) calls)) f-is ∙ sym (both .counts)
 
-      pub state-keeps : state-ok (made .state) ≡ true
-      state-keeps = given-ok r size ok (moves (n + 1) j) whole (made .state) state-is
+      pub rest-ends : (g .refusal ≡ 0 → ⊥) → Replays r j k (record { agrees = false; state = f .state })
+      rest-ends y = none (f .state) (λ e. y (over-is ∙ e))
 
-      pub compared : (b : Bool) → (b ≡ true → made .state ≡ r .state) → (made .state ≡ r .state → b ≡ true) → BeforeLast r j n (record { all = b; state = found .state })
-      compared b f g = record { all = given-replays r size ok (moves (n + 1) j) whole (made .state) state-is b f g; state = λ x. h .state all }
+      module _ (y : g .refusal ≡ 0) where
+        over : eqb (all .refusal) 0 ≡ true
+        over = eq-eqb (all .refusal) 0 (sym over-is ∙ y)
+
+        legal : accepted (start c) (moves n j) ≡ true
+        legal = sym (made n journal-long .accepts) ∙ over
+
+        state-is : g .state ≡ encode (run (start c) (moves n j))
+        state-is = ap (λ (x : Run). x .state) g-rest ∙ sym (both .state) ∙ made n journal-long .state over
+
+        pub whole-right : state-ok (g .state) ≡ true
+        whole-right = given-ok r size ok (moves n j) legal (g .state) state-is
+
+        pub compared : (b : Bool) → (b ≡ true → g .state ≡ r .state) → (g .state ≡ r .state → b ≡ true) →
+            Replays r j k (record { agrees = b; state = f .state })
+        unfolding matches decode
+        compared b same back =
+            record {
+              agrees = given-replays r size ok (moves n j) legal (g .state) state-is b same back;
+              state = λ x. ap (λ (q : Run). q .state) f-is ∙ made k (omega (arith, journal-long)) .state (eq-eqb (front .refusal) 0 (sym refusal-is ∙ z));
+            }
 
 -- ---- the answers
 
@@ -178,25 +206,18 @@ module _ (r : Session) (j : List ℕ) where
     unfolding undo-refusal
     undo-none z = undo-kept 9 (rw (free, eq-eqb (shown r .applied) 0 (applied-shown ∙ z))) (λ x. absurd (omega arith))
 
-    module _ (n : ℕ) (some : n + 1 ≡ r .state .applied) (b : Replayed) (h : BeforeLast r j n b) where
+    module _ (n : ℕ) (some : n + 1 ≡ r .state .applied) (b : Found) (h : Replays r j n b) where
       stand : shown r .applied ≡ n + 1
       stand = applied-shown ∙ sym some
 
-      -- the number, with k moves standing
-      number-with : ℕ → ℕ
-      number-with k =
-          or-later (lent-refusal r (length j)) (refuse (eqb k 0) 9 (refuse (not (replays (start (config-of r)) (moves k j) (shown r))) 16 0))
+      number-is : refuse (not (b .agrees)) 16 0 ≡ undo-refusal r j
+      unfolding undo-refusal
+      number-is = rw (free, ne-eqb (shown r .applied) 0 (λ e. absurd (omega (arith, stand))), h .agrees)
 
-      number-is : refuse (not (b .all)) 16 0 ≡ undo-refusal r j
-      unfolding undo-refusal number-with replayed
-      number-is =
-          let e : refuse (not (b .all)) 16 0 ≡ number-with (n + 1) = rw (free, ne-eqb (n + 1) 0 (omega arith), h .all) in
-          e ∙ ap number-with (sym stand)
+      pub undo-mismatch : b .agrees ≡ false → record { refusal = 16; session = r } ≡ undone r j
+      undo-mismatch z = undo-kept 16 (rw z at number-is) (λ x. absurd (omega arith))
 
-      pub undo-strange : b .all ≡ false → record { refusal = 16; session = r } ≡ undone r j
-      undo-strange z = undo-kept 16 (rw z at number-is) (λ x. absurd (omega arith))
-
-      pub undo-taken : b .all ≡ true → record { refusal = 0; session = record { state = b .state; initial = r .initial } } ≡ undone r j
+      pub undo-taken : b .agrees ≡ true → record { refusal = 0; session = record { state = b .state; initial = r .initial } } ≡ undone r j
       unfolding undone
       undo-taken z =
           let e : 0 ≡ undo-refusal r j = rw z at number-is in

@@ -10,13 +10,13 @@ use Rattle.reference.specs.Start.{config-cause, start}
 use Rattle.reference.specs.Step.{next, run, act, action-of, line}
 use Rattle.reference.specs.Cause.{cause}
 use Rattle.reference.specs.Break.{step-breaks}
-use Rattle.reference.specs.Snapshot.{thread-entry, behind}
+use Rattle.reference.specs.Picture.{thread-entry, behind}
 use Rattle.reference.specs.Session.{bytes}
 use Rattle.session.specs.Contract.{started, lent-refusal, move-refusal, moved, written-at, journal-after}
-use Rattle.session.specs.Worked.{journal, answers, record-after, at-l8, idle, Table, Stealing}
+use Rattle.session.specs.Worked.{journal, refusals, record-after, at-l8, idle, Table, Stealing}
 
 pub table : Table
-unfolding started config-cause start tabulate those encode decode chain run next act line line-of cause action-of moved move-refusal lent-refusal step-breaks journal-after written-at bytes session-ok state-ok broken-rule fields-ok processor-ok mutex-ok thread-ok chains-ok chain-ok holders-ok zero-past each every no-twice find sum is thread-entry behind answers record-after journal at-l8 idle
+unfolding started config-cause start tabulate those encode decode chain run next act line line-of cause action-of moved move-refusal lent-refusal step-breaks journal-after written-at bytes session-ok state-ok broken-rule fields-ok processor-ok mutex-ok thread-ok chains-ok chain-ok holders-ok zero-past each every no-twice find sum is thread-entry behind refusals record-after journal at-l8 idle
 table =
     record {
       k1 = refl;
@@ -24,7 +24,7 @@ table =
       k3 = refl;
       k4 = record { start = refl; moves = refl; end = (refl, refl, refl) };
       s-token = record { start = refl; moves = refl; end = refl };
-      k5 = record { start = refl; moves = refl; end = (refl, refl) };
+      k5 = record { start = refl; moves = refl; end = (refl, refl, refl) };
       k6 = record { start = refl; moves = refl; end = (refl, refl) };
       k6-idle = record { start = refl; moves = refl; end = refl };
       k7-owner = record { start = refl; moves = refl; end = refl };
@@ -35,7 +35,7 @@ table =
     }
 
 pub stealing : Stealing
-unfolding started config-cause start tabulate those encode decode chain run next act line line-of cause action-of moved move-refusal lent-refusal step-breaks journal-after written-at bytes session-ok state-ok broken-rule fields-ok processor-ok mutex-ok thread-ok chains-ok chain-ok holders-ok zero-past each every no-twice find sum is thread-entry behind answers record-after journal
+unfolding started config-cause start tabulate those encode decode chain run next act line line-of cause action-of moved move-refusal lent-refusal step-breaks journal-after written-at bytes session-ok state-ok broken-rule fields-ok processor-ok mutex-ok thread-ok chains-ok chain-ok holders-ok zero-past each every no-twice find sum is thread-entry behind refusals record-after journal
 stealing =
     record {
       fifth = refl;

@@ -34,7 +34,7 @@ table p t m b stealing = record { P = p; T = t; M = m; B = b; stealing = stealin
 
 -- accepted, a call gives the record that it makes; refused, the one that stands for it
 abbrev pub answered : ℕ → Session → Session → Answer
-answered n made kept = record { refusal = n; session = choose (eqb n 0) made kept }
+answered n made other = record { refusal = n; session = choose (eqb n 0) made other }
 
 -- ---- start: 1; refused, an all-zero record
 
@@ -72,8 +72,8 @@ abbrev pub standing : Session → List ℕ → List Move
 standing r j = moves (shown r .applied) j
 
 -- they give the record
-unfoldable pub replayed : Session → List ℕ → Bool
-replayed r j = replays (start (config-of r)) (standing r j) (shown r)
+unfoldable pub matches : Session → List ℕ → Bool
+matches r j = replays (start (config-of r)) (standing r j) (shown r)
 
 abbrev pub progress-in : Session → List ℕ → ℕ → ℕ
 progress-in r j = progress (start (config-of r)) (standing r j)
@@ -81,7 +81,7 @@ progress-in r j = progress (start (config-of r)) (standing r j)
 unfoldable pub tested : Session → List ℕ → Tested
 tested r j =
     record {
-      refusal = or-later (lent-refusal r (length j)) (refuse (not (replayed r j)) bad-journal 0);
+      refusal = or-later (lent-refusal r (length j)) (refuse (not (matches r j)) bad-journal 0);
       calls = if-zero (lent-refusal r (length j)) (tabulate (progress-in r j) 0 33) (replicate 33 0);
     }
 
@@ -91,7 +91,7 @@ unfoldable pub undo-refusal : Session → List ℕ → ℕ
 undo-refusal r j =
     or-later (lent-refusal r (length j))
     (refuse (eqb (shown r .applied) 0) nothing-applied
-    (refuse (not (replayed r j)) bad-journal 0))
+    (refuse (not (matches r j)) bad-journal 0))
 
 unfoldable pub undone : Session → List ℕ → Answer
 undone r j = answered (undo-refusal r j) (session-record (run (start (config-of r)) (all-but-last (standing r j))) (r .initial)) r

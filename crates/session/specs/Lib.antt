@@ -1,4 +1,4 @@
--- What the entry points answer, and the claim about a session's whole list of calls.
+-- What start, move, step back, the journal's front and its test answer; sessions worked out.
 pub mod Contract
-pub mod Replay
 pub mod Worked
+pub mod model

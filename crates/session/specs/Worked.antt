@@ -4,7 +4,6 @@ use Prim.Native.Nat.{ℕ, zero, suc}
 use mathlib.Core.List.{List, [], _∷_, _++_}
 use mathlib.Core.Path.{_≡_}
 use lib.ListN.{replicate, set}
-use Rattle.session.specs.declared.Answer.{Answer}
 use Rattle.state.specs.declared.Token.{Token}
 use Rattle.state.specs.declared.Thread.{Thread}
 use Rattle.state.specs.declared.Processor.{Processor}
@@ -53,18 +52,18 @@ unfoldable pub journal : List ℕ
 journal = replicate 12000 0
 
 -- the answers to a list of moves, and the record after them, each move with the record and the journal that the last one left
-unfoldable pub answers : Session → List ℕ → List Move → List ℕ
-answers r j [] = []
-answers r j (a ∷ rest) = moved r j a .refusal ∷ answers (moved r j a .session) (journal-after r j a) rest
+unfoldable pub refusals : Session → List ℕ → List Move → List ℕ
+refusals r j [] = []
+refusals r j (a ∷ rest) = moved r j a .refusal ∷ refusals (moved r j a .session) (journal-after r j a) rest
 
 unfoldable pub record-after : Session → List ℕ → List Move → Session
 record-after r j [] = r
 record-after r j (a ∷ rest) = record-after (moved r j a .session) (journal-after r j a) rest
 
 -- from an accepted start every move is taken, and then the record is one of which `Q` holds
-pub record Taken (c : Config) (ms : List Move) (Q : State → Type 0) : Type 0 where
+pub record Reaches (c : Config) (ms : List Move) (Q : State → Type 0) : Type 0 where
   pub start : started c .refusal ≡ 0
-  pub moves : answers (started c .session) journal ms ≡ replicate (lib.ListN.length ms) 0
+  pub moves : refusals (started c .session) journal ms ≡ replicate (lib.ListN.length ms) 0
   pub end : Q (record-after (started c .session) journal ms .state)
 
 -- S: both lock 1; processor 1 goes, 2 goes; 1 unlocks, goes through U1, H2, H5
@@ -109,29 +108,30 @@ idle n =
     }
 
 pub record Table : Type 0 where
-  -- K1 start 8 32 8 32 taken; K2 P 9, K3 B 0: refused 1
+  -- K1: the largest table is accepted; K2 and K3: a ninth processor, and no thread created, are not
   pub k1 : started (config 8 32 8 32) .refusal ≡ 0
   pub k2 : started (config 9 32 8 32) ≡ record { refusal = 1; session = zero-session }
   pub k3 : started (config 8 32 8 0) ≡ record { refusal = 1; session = zero-session }
-  -- K4, one thread: lock 1, go, lock 1, five goes (L1, L3, L4, L6, CI2). Count 2, owner 1, thread 1 waiting, position CI2
-  pub k4 : Taken (config 1 1 1 1) (by 1 1 1 ∷ by 1 0 0 ∷ by 1 1 1 ∷ goes 1 5)
+  -- K4: a thread that locks its own mutex waits for itself; its processor is idle
+  pub k4 : Reaches (config 1 1 1 1) (by 1 1 1 ∷ by 1 0 0 ∷ by 1 1 1 ∷ goes 1 5)
       (λ r. (mutex-of r 1 ≡ mutex 2 1 (token 0 0)) × (thread-of r 1 ≡ thread 2 1 0) × (processor-of r 1 .position ≡ 1))
   -- S: token (1,1), count 1
-  pub s-token : Taken (config 2 2 1 2) s (λ r. mutex-of r 1 ≡ mutex 1 0 (token 1 1))
-  -- K5: 1 leaves at H6; 2 goes L3 to L10: owner 2, count 1
-  pub k5 : Taken (config 2 2 1 2) (s ++ goes 1 1 ++ goes 2 7) (λ r. (mutex-of r 1 ≡ mutex 1 2 (token 0 0)) × (processor-of r 2 .current ≡ 2))
-  -- K6: 2 goes L3, L4; 1 goes H6, H8, H2, H3: thread 2 owns and is ready; 2's L6 leads to CI2
-  pub k6 : Taken (config 2 2 1 2) (s ++ goes 2 2 ++ goes 1 4) (λ r. (mutex-of r 1 ≡ mutex 1 2 (token 0 0)) × (thread-of r 2 ≡ thread 1 0 0))
-  pub k6-idle : Taken (config 2 2 1 2) (s ++ goes 2 2 ++ goes 1 4 ++ goes 2 1) (λ r. processor-of r 2 .position ≡ 1)
-  -- K7, S with 3 processors and threads: 2 goes L3, L4; 1 goes H6; 3 trylocks through TL1, GT1, GT3: owner 3; 1's H8 fails; TL3 makes count 2
-  pub k7-owner : Taken (config 3 3 1 3) (s ++ goes 2 2 ++ goes 1 1 ++ by 3 2 1 ∷ goes 3 3) (λ r. mutex-of r 1 ≡ mutex 1 3 (token 0 0))
-  pub k7 : Taken (config 3 3 1 3) (s ++ goes 2 2 ++ goes 1 1 ++ by 3 2 1 ∷ goes 3 3 ++ goes 1 1 ++ goes 3 1)
+  pub s-token : Reaches (config 2 2 1 2) s (λ r. mutex-of r 1 ≡ mutex 1 0 (token 1 1))
+  -- K5: processor 1 leaves the token and is back at App; processor 2 claims it for its own thread, which then owns and runs
+  pub k5 : Reaches (config 2 2 1 2) (s ++ goes 1 1 ++ goes 2 7)
+      (λ r. (mutex-of r 1 ≡ mutex 1 2 (token 0 0)) × (processor-of r 1 ≡ processor 0 1 0 0 (token 0 0) 1) × (processor-of r 2 .current ≡ 2))
+  -- K6: processor 1 takes its token back and serves thread 2, which owns and is ready; processor 2 then finds no token
+  pub k6 : Reaches (config 2 2 1 2) (s ++ goes 2 2 ++ goes 1 4) (λ r. (mutex-of r 1 ≡ mutex 1 2 (token 0 0)) × (thread-of r 2 ≡ thread 1 0 0))
+  pub k6-idle : Reaches (config 2 2 1 2) (s ++ goes 2 2 ++ goes 1 4 ++ goes 2 1) (λ r. processor-of r 2 .position ≡ 1)
+  -- K7: with a third processor, whose trylock claims the token before processor 1 takes it back; both owner and waiting thread are counted
+  pub k7-owner : Reaches (config 3 3 1 3) (s ++ goes 2 2 ++ goes 1 1 ++ by 3 2 1 ∷ goes 3 3) (λ r. mutex-of r 1 ≡ mutex 1 3 (token 0 0))
+  pub k7 : Reaches (config 3 3 1 3) (s ++ goes 2 2 ++ goes 1 1 ++ by 3 2 1 ∷ goes 3 3 ++ goes 1 1 ++ goes 3 1)
       (λ r. (mutex-of r 1 ≡ mutex 2 3 (token 0 0)) × (processor-of r 1 ≡ processor 0 1 0 0 (token 0 0) 1))
-  -- K8 L8 with seen (1,1), token (1,2): CI2
+  -- K8: an old token does not pass L8
   pub k8 : (moved at-l8 journal (by 2 0 0) .refusal ≡ 0) × (processor-of (moved at-l8 journal (by 2 0 0) .session .state) 2 ≡ processor 1 0 0 0 (token 0 0) 0)
-  -- K9 unlock by a stranger: 6
-  pub k9 : answers (started (config 2 2 1 2) .session) journal (by 1 1 1 ∷ by 1 0 0 ∷ by 2 3 1 ∷ []) ≡ 0 ∷ 0 ∷ 6 ∷ []
-  -- K10 a go at CI2 with 3,999 standing in the record is taken, with 4,000: 8
+  -- K9 unlock by a thread that is not the owner: 6
+  pub k9 : refusals (started (config 2 2 1 2) .session) journal (by 1 1 1 ∷ by 1 0 0 ∷ by 2 3 1 ∷ []) ≡ 0 ∷ 0 ∷ 6 ∷ []
+  -- K10: the 4,000th move is accepted, the next is not
   pub k10 : (moved (idle 3999) journal (by 1 0 0) .refusal ≡ 0) × (moved (idle 4000) journal (by 1 0 0) ≡ record { refusal = 8; session = idle 4000 })
 
 -- document 02, No. 13
@@ -139,13 +139,13 @@ pub record Stealing : Type 0 where
   -- a fifth number over 1 is refused by 1
   pub fifth : started (record { P = 2; T = 3; M = 1; B = 3; stealing = 2 }) ≡ record { refusal = 1; session = zero-session }
   -- start 2 3 1 3: thread 3 is in queue 1. Processor 2 exits, finds its own queue empty and looks one place on; it takes thread 3 from queue 1, and loads it
-  pub looks : Taken (each 2 3 1 3) (by 2 5 0 ∷ goes 2 1) (λ r. (first-of r 9 ≡ 3) × (thread-of r 3 ≡ thread 1 1 0) × (processor-of r 2 ≡ probing 1))
-  pub takes : Taken (each 2 3 1 3) (by 2 5 0 ∷ goes 2 2)
+  pub looks : Reaches (each 2 3 1 3) (by 2 5 0 ∷ goes 2 1) (λ r. (first-of r 9 ≡ 3) × (thread-of r 3 ≡ thread 1 1 0) × (processor-of r 2 ≡ probing 1))
+  pub takes : Reaches (each 2 3 1 3) (by 2 5 0 ∷ goes 2 2)
       (λ r. (first-of r 9 ≡ 0) × (thread-of r 3 ≡ thread 4 2 0) × (processor-of r 2 ≡ processor 2 0 3 0 (token 0 0) 0))
-  pub loads : Taken (each 2 3 1 3) (by 2 5 0 ∷ goes 2 3) (λ r. (thread-of r 3 ≡ thread 3 2 0) × (processor-of r 2 ≡ processor 0 3 0 0 (token 0 0) 0))
+  pub loads : Reaches (each 2 3 1 3) (by 2 5 0 ∷ goes 2 3) (λ r. (thread-of r 3 ≡ thread 3 2 0) × (processor-of r 2 ≡ processor 0 3 0 0 (token 0 0) 0))
   -- start 2 2 1 2: processor 1 exits and goes twice; its look number is 0, 1, 0
-  pub first-look : Taken (each 2 2 1 2) (by 1 5 0 ∷ goes 1 0) (λ r. processor-of r 1 ≡ probing 0)
-  pub second-look : Taken (each 2 2 1 2) (by 1 5 0 ∷ goes 1 1) (λ r. processor-of r 1 ≡ probing 1)
-  pub third-look : Taken (each 2 2 1 2) (by 1 5 0 ∷ goes 1 2) (λ r. processor-of r 1 ≡ probing 0)
+  pub first-look : Reaches (each 2 2 1 2) (by 1 5 0 ∷ goes 1 0) (λ r. processor-of r 1 ≡ probing 0)
+  pub second-look : Reaches (each 2 2 1 2) (by 1 5 0 ∷ goes 1 1) (λ r. processor-of r 1 ≡ probing 1)
+  pub third-look : Reaches (each 2 2 1 2) (by 1 5 0 ∷ goes 1 2) (λ r. processor-of r 1 ≡ probing 0)
   -- start 2 3 1 2: processor 2's C2 appends thread 3 to its own queue; processor 1 yields, and its Y1 finds its own queue empty
-  pub own : Taken (each 2 3 1 2) (by 2 6 3 ∷ goes 2 1 ++ by 1 4 0 ∷ goes 1 1) (λ r. (first-of r 10 ≡ 3) × (processor-of r 1 ≡ processor 0 1 0 0 (token 0 0) 0))
+  pub own : Reaches (each 2 3 1 2) (by 2 6 3 ∷ goes 2 1 ++ by 1 4 0 ∷ goes 1 1) (λ r. (first-of r 10 ≡ 3) × (processor-of r 1 ≡ processor 0 1 0 0 (token 0 0) 0))

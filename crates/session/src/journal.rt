@@ -1,4 +1,4 @@
-// The journal: move k is bytes 3(k - 1) to 3k - 1.
+// The journal: three bytes for each move, in order.
 ghost use mathlib.Core.Path.{_≡_};
 ghost use Prim.Native.Nat.{_+_, _*_};
 ghost use lib.ListN.{set};

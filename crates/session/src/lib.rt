@@ -4,22 +4,19 @@ mod replay;
 mod same;
 
 ghost use mathlib.Core.Path.{_≡_};
-ghost use mathlib.Core.Bool.{true, _&&_};
-ghost use Prim.Native.Nat.{_+_, _≤_};
-ghost use Rattle.state.specs.Rules.{session-ok};
-ghost use Rattle.session.specs.Replay.{BeforeLast};
+ghost use mathlib.Core.Bool.{_&&_};
 ghost use Rattle.reference.specs.Lists.{in-range};
 ghost use Rattle.reference.specs.Step.{move-of};
 ghost use lib.Dec.{leb};
 ghost use lib.ListN.{length};
 ghost use Rattle.session.specs.Contract.{table, started, lent-refusal, moved, journal-after, tested, undone, front};
 use crate::journal::write_move;
-use crate::replay::Replayed;
-use crate::replay::replay;
-use crate::same::same_state;
+use crate::replay::replayed;
 use rules::session_ok;
 use state::Session;
 use state::State;
+use state::range::in_range;
+use state::refusal::Refusal;
 
 // What a start, a move or a step back answers: the number that refuses it, or 0, and the session's record.
 pub struct Answer {
@@ -31,22 +28,6 @@ pub struct Answer {
 pub struct Tested {
     pub refusal: u8,
     pub calls: [u16; 33],
-}
-
-const BAD_CONFIG: u8 = 1;
-
-const NOTHING_APPLIED: u8 = 9;
-
-const TOO_SHORT: u8 = 10;
-
-const BAD_RECORD: u8 = 15;
-
-const BAD_JOURNAL: u8 = 16;
-
-fn in_range(lo: u8, hi: u8, n: u8) -> bool
-    ensures { λ r. ⌜ r ≡ in-range lo hi n ⌝ }
-{
-    (lo <= n) & (n <= hi)
 }
 
 fn config_ok(p: u8, t: u8, m: u8, b: u8, stealing: u8) -> bool
@@ -69,7 +50,7 @@ pub fn start(p: u8, t: u8, m: u8, b: u8, stealing: u8) -> Answer
     }
     let state = State::zero();
     Answer {
-        refusal: BAD_CONFIG,
+        refusal: Refusal::BAD_CONFIG,
         session: Session { state, initial: 0 },
     }
 }
@@ -79,10 +60,10 @@ pub fn lent(session: Session, n: usize) -> u8
     ensures { λ r. ⌜ r ≡ lent-refusal session n ⌝ }
 {
     if n < 12000 {
-        return TOO_SHORT;
+        return Refusal::TOO_SHORT;
     }
     let ok = session_ok(session);
-    if ok { 0 } else { BAD_RECORD }
+    if ok { 0 } else { Refusal::BAD_RECORD }
 }
 
 // Moves processor p: action a with operand o. Accepted, the move's three bytes are the journal's next; refused, record and journal stay.
@@ -125,32 +106,18 @@ pub fn test_journal(session: Session, journal: &[u8]) -> Tested
         };
     }
     let state = session.state;
-    let n = state.applied;
-    let found = replay(
-        state.p,
-        state.t,
-        state.m,
-        session.initial,
-        state.stealing,
-        journal,
-        n,
-        &mut calls,
-    );
-    let all = found.all;
-    if all {
-        let whole = found.state;
-        let alike = same_state(whole, state);
-        if alike {
-            return Tested { refusal: 0, calls };
-        }
+    let found = replayed(session, journal, state.applied, &mut calls);
+    let agrees = found.agrees;
+    if agrees {
+        return Tested { refusal: 0, calls };
     }
     Tested {
-        refusal: BAD_JOURNAL,
+        refusal: Refusal::BAD_JOURNAL,
         calls,
     }
 }
 
-// Steps back: the state of all the journal's standing moves but the last, replayed from the start table read off the record.
+// Steps back: the journal is replayed from the start table read off the record, and the state before its last move is given.
 pub fn undo(session: Session, journal: &[u8]) -> Answer
     ensures { λ r. ⌜ r ≡ undone session (now (journal .entry)) ⌝ }
 {
@@ -165,13 +132,14 @@ pub fn undo(session: Session, journal: &[u8]) -> Answer
     let n = state.applied;
     if n == 0 {
         return Answer {
-            refusal: NOTHING_APPLIED,
+            refusal: Refusal::NOTHING_APPLIED,
             session,
         };
     }
-    let found = before_last(session, journal, n - 1);
-    let all = found.all;
-    if all {
+    let mut none = [0u16; 1];
+    let found = replayed(session, journal, n - 1, &mut none);
+    let agrees = found.agrees;
+    if agrees {
         let state = found.state;
         let initial = session.initial;
         return Answer {
@@ -180,49 +148,8 @@ pub fn undo(session: Session, journal: &[u8]) -> Answer
         };
     }
     Answer {
-        refusal: BAD_JOURNAL,
+        refusal: Refusal::BAD_JOURNAL,
         session,
-    }
-}
-
-// The state before the journal's last standing move, and whether the standing moves replay to the record. n is how many stand before the last.
-fn before_last(session: Session, journal: &[u8], n: u16) -> Replayed
-    requires { ⌜ (session-ok session ≡ true) × (12000 ≤ length (now journal)) × (n + 1 ≡ session .state .applied) ⌝ }
-    ensures { λ r. ⌜ BeforeLast session (now (journal .entry)) n r ⌝ }
-{
-    let state = session.state;
-    let mut none = [0u16; 1];
-    let found = replay(
-        state.p,
-        state.t,
-        state.m,
-        session.initial,
-        state.stealing,
-        journal,
-        n,
-        &mut none,
-    );
-    let all = found.all;
-    let before = found.state;
-    if all {
-        let at = 3 * (n as usize);
-        let made = step::moves::moved(before, journal[at], journal[at + 1], journal[at + 2]);
-        if made.refusal == 0 {
-            let whole = made.state;
-            let alike = same_state(whole, state);
-            return Replayed {
-                all: alike,
-                state: before,
-            };
-        }
-        return Replayed {
-            all: false,
-            state: before,
-        };
-    }
-    Replayed {
-        all: false,
-        state: before,
     }
 }
 

@@ -1,43 +1,47 @@
-// Replaying a journal's moves from the start table: one function, which the step back and the journal's test call.
+// Replaying a session's journal from the start table read off its record: one function, which the step back and the journal's test call.
 ghost use mathlib.Core.Path.{_≡_};
 ghost use Prim.Native.Nat.{_*_, _≤_};
 ghost use lib.ListN.{length, take};
-ghost use Rattle.state.specs.Model.{start-record};
-ghost use Rattle.step.specs.Model.{counted-of};
-ghost use Rattle.reference.specs.Start.{config-cause};
-ghost use Rattle.reference.specs.Session.{moves};
-ghost use Rattle.session.specs.Contract.{table};
-ghost use Rattle.session.specs.Replay.{Replays};
+ghost use Rattle.state.specs.model.Access.{start-record};
+ghost use Rattle.step.specs.model.Moves.{counted-of};
+ghost use Rattle.session.specs.Contract.{lent-refusal};
+ghost use Rattle.session.specs.model.Replay.{Replays};
+use crate::same::same_state;
+use state::Session;
 use state::State;
 use step::moves::run;
 
-// Whether each move was accepted, and the state after them.
-pub(crate) struct Replayed {
-    pub all: bool,
+// Whether the standing moves give the record, and the state after the first k of them.
+pub(crate) struct Found {
+    pub agrees: bool,
     pub state: State,
 }
 
-// The first n moves of the journal; each thread's calls among them, up to the first that is refused, are counted.
-pub(crate) fn replay(
-    p: u8,
-    t: u8,
-    m: u8,
-    b: u8,
-    stealing: u8,
-    journal: &[u8],
-    n: u16,
-    calls: &mut [u16],
-) -> Replayed
-    requires { ⌜ (config-cause (table p t m b stealing) ≡ 0) × (3 * n ≤ length (now journal)) ⌝ }
-    ensures state { λ r. ⌜ Replays (table p t m b stealing) (moves n (now (journal .entry))) r ⌝ }
-    ensures calls { λ r. ⌜ now (calls .exit) ≡ counted-of (start-record p t m b stealing) (take (3 * n) (now (journal .entry))) (now (calls .entry)) ⌝ }
+// The first k of the journal's standing moves, then the others; each thread's calls among them, up to the first that is refused, are counted.
+pub(crate) fn replayed(session: Session, journal: &[u8], k: u16, calls: &mut [u16]) -> Found
+    requires { ⌜ (lent-refusal session (length (now journal)) ≡ 0) × (k ≤ session .state .applied) ⌝ }
+    ensures state { λ r. ⌜ Replays session (now (journal .entry)) k r ⌝ }
+    ensures calls { λ r. ⌜ now (calls .exit) ≡ counted-of (start-record (session .state .p) (session .state .t) (session .state .m) (session .initial) (session .state .stealing)) (take (3 * session .state .applied) (now (journal .entry))) (now (calls .entry)) ⌝ }
 {
-    let s = State::start(p, t, m, b, stealing);
-    let end = 3 * (n as usize);
-    let done = run(s, &journal[..end], calls);
-    let state = done.state;
-    Replayed {
-        all: done.refusal == 0,
-        state,
+    let state = session.state;
+    let first = State::start(state.p, state.t, state.m, session.initial, state.stealing);
+    let middle = 3 * (k as usize);
+    let end = 3 * (state.applied as usize);
+    let front = run(first, &journal[..middle], calls);
+    let reached = front.state;
+    if front.refusal == 0 {
+        let rest = run(reached, &journal[middle..end], calls);
+        if rest.refusal == 0 {
+            let whole = rest.state;
+            let agrees = same_state(whole, state);
+            return Found {
+                agrees,
+                state: reached,
+            };
+        }
+    }
+    Found {
+        agrees: false,
+        state: reached,
     }
 }

@@ -3,8 +3,10 @@ use crate::fields::same;
 use crate::fields::with_field;
 use crate::line::Line;
 use libc::STDOUT_FILENO;
+use picture::answer::Ahead;
 use session::Answer;
 use state::Session;
+use state::State;
 
 fn text(bytes: &[u8]) {
     io::write_all(STDOUT_FILENO, bytes);
@@ -65,11 +67,17 @@ pub(crate) fn hash(bytes: &[u8]) -> u64 {
     x
 }
 
-// The picture, or the number that refuses it, and B.
-fn picture(session: Session) {
+// The picture's refusal where the buffer's first room bytes are lent.
+fn write_in(state: State, room: isize, bytes: &mut [u8]) -> u8 {
+    let n = io::count(room, bytes);
+    picture::write(state, &mut bytes[..n])
+}
+
+// The picture, written into room bytes, or the number that refuses it, and B.
+fn picture(session: Session, room: isize) {
     let state = session.state;
     let mut bytes = [0u8; 296];
-    let refusal = snapshot::write(state, &mut bytes);
+    let refusal = write_in(state, room, &mut bytes);
     let long = 8 + 12 * (state.p as u16) + 8 * (state.m as u16) + 4 * (state.t as u16);
     let n = io::count(long as isize, &bytes);
     if refusal == 0 {
@@ -81,8 +89,31 @@ fn picture(session: Session) {
     number(session.initial as u64, b"\n");
 }
 
+// 296 bytes, the longest picture's, where the line has no number.
+fn room(line: Line) -> isize {
+    if line.at == 0 {
+        296
+    } else {
+        line.number(1) as isize
+    }
+}
+
+// The turns ahead of a thread: a number, - where it does not wait, r before a refusal.
+fn ahead(session: Session, thread: u8) {
+    let state = session.state;
+    let turns = picture::ahead(state, thread);
+    match turns {
+        Ahead::Turns(n) => number(n as u64, b"\n"),
+        Ahead::NotWaiting => text(b"-\n"),
+        Ahead::Refused(n) => {
+            text(b"r");
+            number(n as u64, b"\n")
+        },
+    }
+}
+
 // Prints the refusal, whether a field of the record changed, whether a byte of the journal did, and what stands after them.
-pub(crate) fn told(was: Session, answer: Answer, alike: bool, after: &[u8]) -> Session {
+pub(crate) fn report_then(was: Session, answer: Answer, alike: bool, after: &[u8]) -> Session {
     let session = answer.session;
     number(answer.refusal as u64, b" ");
     number(!same(was, session) as u64, b" ");
@@ -90,8 +121,8 @@ pub(crate) fn told(was: Session, answer: Answer, alike: bool, after: &[u8]) -> S
     session
 }
 
-pub(crate) fn reported(was: Session, answer: Answer, alike: bool) -> Session {
-    told(was, answer, alike, b"\n")
+pub(crate) fn report(was: Session, answer: Answer, alike: bool) -> Session {
+    report_then(was, answer, alike, b"\n")
 }
 
 fn start(session: Session, line: Line) -> Session {
@@ -102,7 +133,7 @@ fn start(session: Session, line: Line) -> Session {
         line.byte(4),
         line.byte(5),
     );
-    reported(session, answer, true)
+    report(session, answer, true)
 }
 
 fn make_move(session: Session, lent: isize, line: Line, journal: &mut [u8]) -> Session {
@@ -114,7 +145,7 @@ fn make_move(session: Session, lent: isize, line: Line, journal: &mut [u8]) -> S
     let o = line.byte(3);
     let answer = session::make_move(session, &mut journal[..n], p, a, o);
     let alike = check::same(&before, journal);
-    reported(session, answer, alike)
+    report(session, answer, alike)
 }
 
 fn back(session: Session, lent: isize, journal: &[u8]) -> Session {
@@ -122,7 +153,7 @@ fn back(session: Session, lent: isize, journal: &[u8]) -> Session {
     let before = hash(journal);
     let answer = session::undo(session, &journal[..n]);
     let alike = before == hash(journal);
-    reported(session, answer, alike)
+    report(session, answer, alike)
 }
 
 // Prints the refusal, the front's length and its bytes.
@@ -141,7 +172,8 @@ fn look(session: Session, lent: isize, line: Line, journal: &mut [u8], kept: &mu
     let word = line.word;
     match word {
         b'f' => front(session, lent, journal),
-        b'p' => picture(session),
+        b'p' => picture(session, room(line)),
+        b'q' => ahead(session, line.byte(1)),
         b'h' => number(hash(journal), b"\n"),
         b'w' => put(journal, line.number(1) as usize, line.byte(2)),
         b'n' => noise(line.number(1), journal),
@@ -151,8 +183,8 @@ fn look(session: Session, lent: isize, line: Line, journal: &mut [u8], kept: &mu
     }
 }
 
-// Obeys a line on plain sessions, whose word's first letter names the command. stored: the record that was kept; lent: how many bytes of the journal are lent.
-pub(crate) fn obey(
+// Executes a line on plain sessions, whose word's first letter names the command. stored: the record that was kept; lent: how many bytes of the journal are lent.
+pub(crate) fn execute(
     session: Session,
     stored: Session,
     lent: isize,

@@ -1,16 +1,13 @@
 // The fields of a session's record by their numbers: 0 to 4 are P, T, M, the moves applied and B, 5 to 13 the firsts of queues 0 to 8, 14 to 85 the processors (8 each), 86 to 121 the mutexes (4 each), 122 to 220 the threads (3 each), 221 the choice of ready queues, 222 to 229 the firsts of those of the processors, 230 to 238 the processors' look numbers. Each table begins with its unused row 0.
 use crate::line::low;
-use state::Chains;
 use state::Mutex;
 use state::Processor;
 use state::Session;
 use state::State;
 use state::Thread;
 use state::Token;
-use state::chain::first_at;
-use state::chain::thread_at;
-use state::chain::with_first;
-use state::chain::with_thread;
+use state::access;
+use state::chain;
 
 const FIELDS: u16 = 239;
 
@@ -61,41 +58,56 @@ fn of_numbers(session: Session, i: u16) -> u16 {
     }
 }
 
+fn first(state: State, q: u8) -> u8 {
+    let chains = state.chains;
+    let firsts = chains.firsts;
+    chain::first_at(firsts, q)
+}
+
+fn processor(state: State, p: u8) -> Processor {
+    let processors = state.processors;
+    access::processor_at(processors, p)
+}
+
+fn mutex(state: State, m: u8) -> Mutex {
+    let mutexes = state.mutexes;
+    access::mutex_at(mutexes, m)
+}
+
+fn thread(state: State, k: u8) -> Thread {
+    let chains = state.chains;
+    let threads = chains.threads;
+    chain::thread_at(threads, k)
+}
+
 // Field i of a record.
 fn field(session: Session, i: u16) -> u16 {
     let state = session.state;
-    let chains = state.chains;
     if i < 5 {
         return of_numbers(session, i);
     }
     if i < 14 {
-        let firsts = chains.firsts;
-        return wide(first_at(firsts, low(i - 5)));
+        return wide(first(state, low(i - 5)));
     }
     if i < 86 {
         let j = i - 14;
-        let r = state.processor(low(j / 8));
-        return of_processor(r, j % 8);
+        return of_processor(processor(state, low(j / 8)), j % 8);
     }
     if i < 122 {
         let j = i - 86;
-        let r = state.mutex(low(j / 4));
-        return of_mutex(r, j % 4);
+        return of_mutex(mutex(state, low(j / 4)), j % 4);
     }
     if i < 221 {
         let j = i - 122;
-        let threads = chains.threads;
-        let r = thread_at(threads, low(j / 3));
-        return of_thread(r, j % 3);
+        return of_thread(thread(state, low(j / 3)), j % 3);
     }
     if i == 221 {
         return wide(state.stealing);
     }
     if i < 230 {
-        let firsts = chains.firsts;
-        return wide(first_at(firsts, low(i - 213)));
+        return wide(first(state, low(i - 213)));
     }
-    let r = state.processor(low(i - 230));
+    let r = processor(state, low(i - 230));
     wide(r.probe)
 }
 
@@ -190,65 +202,103 @@ fn with_of_thread(r: Thread, f: u16, b: u8) -> Thread {
     next
 }
 
-// The state with field i, any but B, set to v.
-fn with_state(state: State, i: u16, v: u16) -> State {
+// P, T, M or the moves applied.
+fn with_number(state: State, i: u16, v: u16) -> State {
     let mut next = state;
     let b = low(v);
-    let chains = state.chains;
-    let firsts = chains.firsts;
-    let threads = chains.threads;
-    if i < 5 {
-        match i {
-            0 => {
-                next.p = b;
-            }
-            1 => {
-                next.t = b;
-            }
-            2 => {
-                next.m = b;
-            }
-            _ => {
-                next.applied = v;
-            }
+    match i {
+        0 => {
+            next.p = b;
         }
-        return next;
+        1 => {
+            next.t = b;
+        }
+        2 => {
+            next.m = b;
+        }
+        _ => {
+            next.applied = v;
+        }
+    }
+    next
+}
+
+// The first of queue q.
+fn with_first(state: State, q: u8, b: u8) -> State {
+    let mut next = state;
+    let mut chains = state.chains;
+    let mut firsts = chains.firsts;
+    let i = q as usize;
+    if i < 17 {
+        firsts[i] = b;
+    }
+    chains.firsts = firsts;
+    next.chains = chains;
+    next
+}
+
+fn with_thread(state: State, k: u8, r: Thread) -> State {
+    let mut next = state;
+    let mut chains = state.chains;
+    let before = chains.threads;
+    let threads = chain::with_thread(before, k, r);
+    chains.threads = threads;
+    next.chains = chains;
+    next
+}
+
+fn with_processor(state: State, p: u8, r: Processor) -> State {
+    let mut next = state;
+    let before = state.processors;
+    let processors = access::with_processor(before, p, r);
+    next.processors = processors;
+    next
+}
+
+fn with_mutex(state: State, m: u8, r: Mutex) -> State {
+    let mut next = state;
+    let before = state.mutexes;
+    let mutexes = access::with_mutex(before, m, r);
+    next.mutexes = mutexes;
+    next
+}
+
+// The state with field i, any but B, set to v.
+fn with_state(state: State, i: u16, v: u16) -> State {
+    let b = low(v);
+    if i < 5 {
+        return with_number(state, i, v);
     }
     if i < 14 {
-        let firsts = with_first(firsts, low(i - 5), b);
-        return state.with_chains(Chains { firsts, threads });
+        return with_first(state, low(i - 5), b);
     }
     if i < 86 {
         let j = i - 14;
         let p = low(j / 8);
-        let r = state.processor(p);
-        return state.with_processor(p, with_of_processor(r, j % 8, v));
+        return with_processor(state, p, with_of_processor(processor(state, p), j % 8, v));
     }
     if i < 122 {
         let j = i - 86;
         let m = low(j / 4);
-        let r = state.mutex(m);
-        return state.with_mutex(m, with_of_mutex(r, j % 4, v));
+        return with_mutex(state, m, with_of_mutex(mutex(state, m), j % 4, v));
     }
     if i < 221 {
         let j = i - 122;
         let k = low(j / 3);
-        let r = thread_at(threads, k);
-        let threads = with_thread(threads, k, with_of_thread(r, j % 3, b));
-        return state.with_chains(Chains { firsts, threads });
+        return with_thread(state, k, with_of_thread(thread(state, k), j % 3, b));
     }
     if i == 221 {
+        let mut next = state;
         next.stealing = b;
         return next;
     }
     if i < 230 {
-        let firsts = with_first(firsts, low(i - 213), b);
-        return state.with_chains(Chains { firsts, threads });
+        return with_first(state, low(i - 213), b);
     }
     let p = low(i - 230);
-    let mut r = state.processor(p);
+    let mut r = processor(state, p);
     r.probe = b;
-    state.with_processor(p, r)
+    with_processor(state, p, r)
 }
 
 // The record with field i set to v.

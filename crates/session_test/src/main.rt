@@ -10,8 +10,8 @@ use scripted::Lent;
 use scripted::of_scripts;
 use state::Session;
 
-// The line is obeyed where the byte is a line feed.
-fn heard(
+// The line is executed where the byte is a line feed.
+fn session_after(
     session: Session,
     stored: Session,
     lent: Lent,
@@ -29,7 +29,7 @@ fn heard(
     }
     let scripted = of_scripts(line.word);
     if scripted {
-        return scripted::obey(
+        return scripted::execute(
             session,
             lent,
             line,
@@ -40,7 +40,7 @@ fn heard(
             pictures,
         );
     }
-    calls::obey(session, stored, lent.journal, line, journal, kept)
+    calls::execute(session, stored, lent.journal, line, journal, kept)
 }
 
 fn kept_after(session: Session, stored: Session, line: Line, b: u8) -> Session {
@@ -73,7 +73,7 @@ fn run(
     let mut line = Line::empty();
     for i in 0..script.len() {
         let b = script[i];
-        let next = heard(
+        let next = session_after(
             session,
             stored,
             lent,
@@ -95,7 +95,7 @@ fn run(
 
 // Both journals have a byte more than is needed, and the script has room.
 fn main() {
-    let mut script = [0u8; 196608];
+    let mut script = [0u8; 262144];
     let n = io::read_full(STDIN_FILENO, &mut script);
     let mut journal = [0u8; 12001];
     let mut kept = [0u8; 12001];

@@ -4,8 +4,8 @@ use crate::calls::hash;
 use crate::calls::noise;
 use crate::calls::number;
 use crate::calls::put;
-use crate::calls::reported;
-use crate::calls::told;
+use crate::calls::report;
+use crate::calls::report_then;
 use crate::line::Line;
 use crate::line::low;
 use state::Session;
@@ -38,7 +38,7 @@ fn up_to(b: u8, most: u8) -> u8 {
 }
 
 // Numbers from 0 to the most, from a seed.
-fn yarn(seed: u16, most: u8, list: &mut [u8]) {
+fn generate(seed: u16, most: u8, list: &mut [u8]) {
     noise(seed, list);
     for i in 0..list.len() {
         let b = list[i];
@@ -54,7 +54,7 @@ fn init(session: Session, lent: Lent, line: Line, scripts: &[u8]) -> Session {
     let b = line.byte(4);
     let stealing = line.byte(5);
     let answer = turns::start(p, t, m, b, stealing, &scripts[..n]);
-    reported(session, answer, true)
+    report(session, answer, true)
 }
 
 fn turn(session: Session, lent: Lent, line: Line, journal: &mut [u8], scripts: &[u8]) -> Session {
@@ -65,11 +65,11 @@ fn turn(session: Session, lent: Lent, line: Line, journal: &mut [u8], scripts: &
     let p = line.byte(1);
     let answer = turns::turn(session, &mut journal[..n], &scripts[..k], p);
     let alike = check::same(&before, journal);
-    reported(session, answer, alike)
+    report(session, answer, alike)
 }
 
 // Prints also numbers that stand for all answers and pictures.
-fn drive(
+fn class(
     session: Session,
     lent: Lent,
     line: Line,
@@ -94,7 +94,7 @@ fn drive(
         &mut pictures[..q],
     );
     let alike = before == hash(journal);
-    let next = told(session, answer, alike, b" ");
+    let next = report_then(session, answer, alike, b" ");
     number(hash(answers), b" ");
     number(hash(pictures), b"\n");
     next
@@ -103,7 +103,7 @@ fn drive(
 // Whether a word is one of these commands.
 pub(crate) fn of_scripts(word: u8) -> bool {
     match word {
-        b'i' | b't' | b'd' | b'e' | b'o' | b'y' | b'v' => true,
+        b'i' | b't' | b'd' | b'e' | b'o' | b'g' | b'v' => true,
         _ => false,
     }
 }
@@ -114,7 +114,7 @@ fn fill(line: Line, scripts: &mut [u8], list: &mut [u8], answers: &mut [u8], pic
     match word {
         b'e' => edit(scripts, line),
         b'o' => edit(list, line),
-        b'y' => yarn(line.number(1), line.byte(2), list),
+        b'g' => generate(line.number(1), line.byte(2), list),
         _ => {
             noise(line.number(1), answers);
             noise(line.number(1), pictures);
@@ -122,8 +122,8 @@ fn fill(line: Line, scripts: &mut [u8], list: &mut [u8], answers: &mut [u8], pic
     }
 }
 
-// Obeys a line on scripted threads.
-pub(crate) fn obey(
+// Executes a line on scripted threads.
+pub(crate) fn execute(
     session: Session,
     lent: Lent,
     line: Line,
@@ -137,7 +137,7 @@ pub(crate) fn obey(
     match word {
         b'i' => init(session, lent, line, scripts),
         b't' => turn(session, lent, line, journal, scripts),
-        b'd' => drive(
+        b'd' => class(
             session,
             lent,
             line,

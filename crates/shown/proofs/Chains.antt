@@ -10,9 +10,9 @@ use lib.ListN.{length}
 use borrow.Author.Tests.{leb-true, le-leb}
 use Rattle.state.specs.declared.Thread.{Thread}
 use Rattle.state.specs.Record.{chain}
-use Rattle.state.specs.Rules.{every, placed-in, met, chain-ok}
+use Rattle.state.specs.Rules.{every, placed-in, chain-ok}
 use Rattle.reference.specs.Lists.{is, occurrences, in-range}
-use Rattle.reference.specs.Snapshot.{stands-in, first, behind}
+use Rattle.reference.specs.Picture.{stands-in, first, behind}
 use Rattle.reference.specs.Safe.{In}
 use Rattle.reference.proofs.Tests.{both, _and_, true-range}
 use Rattle.reference.proofs.Sums.{is-same}
@@ -71,20 +71,15 @@ module _ (thread : ℕ → Thread) where
       let r : chain thread fuel (next-of (suc f)) ≡ l = linked-chain fuel (next-of (suc f)) l (rw (h .0) (h .2)) (omega arith) in
       rw (r, h .0)
 
-  -- a list without duplicates in which the one behind each member is its next
-  pub behind-chain : (fuel : ℕ) (l : List ℕ) → Once l → ((k : ℕ) → Member k l → 1 ≤ k) → ((k : ℕ) → Member k l → next-of k ≡ behind k l) → length l ≤ fuel →
-      chain thread fuel (first l) ≡ l
-  behind-chain fuel l once low h n = linked-chain fuel (first l) l (behind-linked next-of l once low h) n
-
   -- a chain that is shorter than its fuel ends
-  pub chain-linked : (fuel f : ℕ) → length (chain thread fuel f) < fuel → Linked next-of f (chain thread fuel f)
+  chain-linked : (fuel f : ℕ) → length (chain thread fuel f) < fuel → Linked next-of f (chain thread fuel f)
   unfolding chain
   chain-linked zero f n = absurd (omega arith)
   chain-linked (suc fuel) zero n = refl
   chain-linked (suc fuel) (suc f) n = (refl, omega arith, chain-linked fuel (next-of (suc f)) (omega arith))
 
   -- and is the same with any fuel that is enough
-  pub chain-fuel : (n fuel f : ℕ) → length (chain thread fuel f) < fuel → length (chain thread fuel f) ≤ n → chain thread n f ≡ chain thread fuel f
+  chain-fuel : (n fuel f : ℕ) → length (chain thread fuel f) < fuel → length (chain thread fuel f) ≤ n → chain thread n f ≡ chain thread fuel f
   chain-fuel n fuel f h g = linked-chain n f (chain thread fuel f) (chain-linked fuel f h) g
 
   -- ---- the rule of chains

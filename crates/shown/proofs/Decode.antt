@@ -11,8 +11,6 @@ use lib.ListN.{length}
 use lib.Seq.{ext-getD}
 use borrow.Author.Tests.{eqb-true, eq-eqb, ne-eqb}
 use Rattle.state.specs.declared.Thread.{Thread}
-use Rattle.state.specs.declared.Processor.{Processor}
-use Rattle.state.specs.declared.State.{State}
 use Rattle.state.specs.Record.{zero-thread, thread-of, processor-of, mutex-of, first-of}
 use Rattle.state.specs.Association.{encode, decode, queue-at, ready-index, queued-as, queue-shown, mutex-shown, processor-shown, token-shown, life-shown, thread-record, processor-record, mutex-record}
 use Rattle.state.specs.Rules.{placed-in, chain-ok, chains-ok, register-matches, thread-matches, holders-ok, zero-processor?, zero-mutex?, zero-thread?, within-or, zero-past, state-ok}
@@ -21,7 +19,7 @@ use Rattle.state.proofs.Numbers.{stands, queue-mutex, queue-ready, number-one}
 use Rattle.reference.specs.Lists.{at, choose, in-range, tabulate}
 use Rattle.reference.specs.State as reference
 use Rattle.reference.specs.State.{Life, new, live, terminated, processor-at, mutex-at, life-at, nobody, free-mutex}
-use Rattle.reference.specs.Snapshot.{behind}
+use Rattle.reference.specs.Picture.{behind}
 use Rattle.reference.specs.Safe.{In}
 use Rattle.reference.proofs.Tests.{both, both-left, both-right}
 use Rattle.reference.proofs.Same.{line-number}

@@ -11,19 +11,17 @@ use lib.ListN.{length}
 use borrow.Author.Tests.{eqb-true, eq-eqb, ne-eqb}
 use Rattle.state.specs.declared.Thread.{Thread}
 use Rattle.state.specs.declared.Processor.{Processor}
-use Rattle.state.specs.declared.Mutex.{Mutex}
 use Rattle.state.specs.declared.State.{State}
-use Rattle.state.specs.Record.{zero-thread, thread-of, processor-of, mutex-of, first-of, chain}
+use Rattle.state.specs.Record.{zero-thread, thread-of, processor-of, mutex-of, first-of, chain, Sized}
 use Rattle.state.specs.Association.{encode, decode, queue-at, ready-index, queued-as, thread-row, queue-shown, mutex-shown, processor-shown, life-shown, thread-record, processor-record, mutex-record}
 use Rattle.state.specs.Rules.{placed-in, is-queue, register-matches, state-ok, every}
 use Rattle.state.specs.Allowed.{Allowed}
-use Rattle.state.proofs.Sized.{Sized}
 use Rattle.state.proofs.Branch.{if-none, if-some}
 use Rattle.state.proofs.Numbers.{at-past, stands, queue-single, queue-no-single, queue-mutex, queue-each, queue-no-each, by-number, mutex-as, ready-as}
 use Rattle.reference.specs.Lists.{choose, if-zero, in-range, is, sum, occurrences, tabulate, each}
 use Rattle.reference.specs.State as reference
 use Rattle.reference.specs.State.{live, same-life, processor-at, mutex-at, life-at, nobody, free-mutex, line-of, row}
-use Rattle.reference.specs.Snapshot.{first, behind, thread-entry}
+use Rattle.reference.specs.Picture.{first, behind, thread-entry}
 use Rattle.reference.specs.Start.{itself}
 use Rattle.reference.specs.Safe.{In, one-if, held}
 use Rattle.reference.proofs.Tests.{both-left, both-right, range-true, true-range}
@@ -392,7 +390,7 @@ module _ (r : State) (f : Facts r) where
   first-is q l = sym (ap first (queue-is q l) ∙ linked-first (λ k. thread-of r k .next) (first-of r q) (queue-shown r q) (f .queue q l .linked))
 
   -- a ready queue is one of the record's
-  pub ready-some : (i : ℕ) → In (reference.queues (r .stealing) (r .p)) i → (q : ℕ) × (queue-shown r q ≡ reference.queue-at (decode r) i) × (q ≤ 16)
+  ready-some : (i : ℕ) → In (reference.queues (r .stealing) (r .p)) i → (q : ℕ) × (queue-shown r q ≡ reference.queue-at (decode r) i) × (q ≤ 16)
   ready-some i l = (
     ready-index (r .stealing) i,
     sym (ready-is i l),

@@ -14,11 +14,10 @@ use Rattle.state.specs.declared.Token.{Token}
 use Rattle.state.specs.declared.Processor.{Processor}
 use Rattle.state.specs.declared.Mutex.{Mutex}
 use Rattle.state.specs.declared.State.{State}
-use Rattle.state.specs.Record.{zero-thread, zero-token, zero-processor, zero-mutex, thread-of, processor-of, mutex-of, first-of}
+use Rattle.state.specs.Record.{zero-thread, zero-token, zero-processor, zero-mutex, thread-of, processor-of, mutex-of, first-of, Sized}
 use Rattle.state.specs.Association.{queue-shown, queued-as}
 use Rattle.state.proofs.Numbers.{stands}
 use Rattle.state.specs.Rules.{processor-ok, register-ok, mutex-ok, holder-ok, next-ok, thread-ok, is-queue, fields-ok, placed-in, chain-ok, chains-ok, register-matches, thread-matches, holders-ok, broken-rule, zero-token?, zero-processor?, zero-mutex?, zero-thread?, within-or, zero-past, state-ok}
-use Rattle.state.proofs.Sized.{Sized}
 use Rattle.reference.specs.Lists.{choose, in-range, each}
 use Rattle.reference.specs.State.{Row, queues, row, line-of}
 use Rattle.reference.specs.Safe.{In}

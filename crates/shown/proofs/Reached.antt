@@ -1,31 +1,23 @@
 -- Every state that a session reaches is allowed, so a record shows it.
 -- Assumes nothing.
-use Prim.Native.Nat.{ℕ, _≤_}
-use mathlib.Core.Bool.{true, not}
+use Prim.Native.Nat.{_≤_}
+use mathlib.Core.Bool.{true}
 use mathlib.Core.List.{List}
-use mathlib.Core.Path.{_≡_, refl}
+use mathlib.Core.Path.{_≡_}
 use native.Mathlib.Omega.{arith}
 use Rattle.state.specs.Allowed.{Allowed}
 use Rattle.reference.specs.State as reference
-use Rattle.reference.specs.State.{Life, new, live, terminated, same-life, life-at}
 use Rattle.reference.specs.Start.{Config, config-cause, start}
 use Rattle.reference.specs.Step.{Move, run}
 use Rattle.reference.specs.Cause.{accepted}
-use Rattle.reference.specs.Session.{Call, state-of, left}
-use Rattle.reference.specs.Safe.{In, one-if}
-use Rattle.reference.proofs.Invariant.{Good, gone}
+use Rattle.reference.specs.Safe.{In}
+use Rattle.reference.proofs.Invariant.{Good}
 use Rattle.reference.proofs.Bound.{count-bound}
 use Rattle.reference.proofs.Start.{ranges}
 use Rattle.reference.proofs.Laws.{good, sized}
-use Rattle.reference.proofs.Session.{accepted-left}
 use Rattle.shown.proofs.Regular.{regular-allowed}
 
-gone-is : (l : Life) → one-if (not (same-life l live)) ≡ gone l
-gone-is new = refl
-gone-is live = refl
-gone-is terminated = refl
-
-pub good-allowed : (s : reference.State) → Good s → In 8 (s .P) → In 32 (s .T) → In 8 (s .M) → s .stealing ≤ 1 → Allowed s
+good-allowed : (s : reference.State) → Good s → In 8 (s .P) → In 32 (s .T) → In 8 (s .M) → s .stealing ≤ 1 → Allowed s
 good-allowed s g rp rt rm rc =
     regular-allowed s
     (record {
@@ -34,8 +26,7 @@ good-allowed s g rp rt rm rc =
       m-range = rm;
       stealing = rc;
       applied = g .applied;
-      placed =
-          record { processors = g .processors; mutexes = g .mutexes; lives = g .lives; count = g .queues; one-place = λ k i. rw (gone-is (life-at s k)) (g .census k i) };
+      placed = record { processors = g .processors; mutexes = g .mutexes; lives = g .lives; count = g .queues; one-place = g .census };
       probe = g .probe;
       ready = g .ready;
       registers = λ p i. omega (arith, g .table p i, g .applied);
@@ -48,7 +39,3 @@ reached-allowed c e ms ok =
     let z = sized c ms in
     let r = ranges c e in
     good-allowed (run (start c) ms) (good c e ms ok) (rw (z .0) (r .processors)) (rw (z .1) (r .threads)) (rw (z .2) (r .mutexes)) (rw (z .3) (r .stealing))
-
--- and so of whatever a session holds
-pub session-allowed : (c : Config) (n : ℕ) (ms : List Move) (calls : List Call) → config-cause c ≡ 0 → accepted (start c) ms ≡ true → Allowed (state-of c (left c n ms calls))
-session-allowed c n ms calls e ok = reached-allowed c e (left c n ms calls) (accepted-left c n calls ms ok)

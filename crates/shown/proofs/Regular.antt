@@ -10,7 +10,6 @@ use lib.ListN.{length}
 use borrow.Author.Tests.{leb-true, le-leb, lt-ltb, ltb-true, eq-eqb, eqb-true, ne-eqb}
 use Rattle.state.specs.declared.Token.{Token}
 use Rattle.state.specs.declared.Thread.{Thread}
-use Rattle.state.specs.declared.Processor.{Processor}
 use Rattle.state.specs.Record.{thread-of, processor-of, mutex-of, first-of}
 use Rattle.state.specs.Association.{encode, queue-at, ready-index, queued-as, thread-record, token-record, processor-record}
 use Rattle.state.proofs.Numbers.{by-number, mutex-as, ready-as}
@@ -19,42 +18,26 @@ use Rattle.state.specs.Allowed.{Allowed}
 use Rattle.reference.specs.Lists.{at, choose, if-zero, in-range, sum, occurrences}
 use Rattle.reference.specs.State as reference
 use Rattle.reference.specs.State.{Line, App, CI2, CI3, L1, L3, L4, L6, L7, L8, L9, L10, TL1, GT1, GT3, TL3, U1, H2, H3, H5, H6, H8, Y1, Y2, Y3, C2, Row, row, same-line, probes, processor-at, mutex-at}
-use Rattle.reference.specs.Snapshot.{first, behind}
+use Rattle.reference.specs.Picture.{first, behind}
 use Rattle.reference.specs.Safe.{In}
 use Rattle.reference.proofs.Tests.{both, both-left, both-right, _and_, range-true, true-range}
 use Rattle.reference.proofs.Same.{line-number}
-use Rattle.reference.proofs.Sums.{some, some-le, some-pos, sum-at}
-use Rattle.reference.proofs.Local.{out, out-in, in-out, ProbeFits}
+use Rattle.reference.proofs.Sums.{some, some-le, some-one, some-pos, sum-at}
+use Rattle.reference.proofs.Local as local
+use Rattle.reference.proofs.Local.{out, out-in, in-out, ProbeFits, Sound}
 use Rattle.reference.proofs.Invariant.{some-queue}
 use Rattle.association.proofs.Spots.{Spot, AtSpot, entry-for, Placed, allowed-placed, spot-entry, spot-of}
 use Rattle.association.proofs.Shown.{Fits, out-of-range, allowed-fits, read-processor, read-mutex, read-first, read-entry}
 use Rattle.shown.proofs.Tests.{occurs-none}
 use Rattle.shown.proofs.Kept.{Fields, say-fields, fields-say}
 
--- the registers of a processor at line l: in 1 .. their bound where the line's row has 1, else 0
-pub record Registers (P T M : ℕ) (l : Line) (r : reference.Processor) : Type 0 where
-  pub current-low : row l .current ≤ r .current
-  pub current-high : r .current ≤ T * row l .current
-  pub transit-low : row l .transit ≤ r .transit
-  pub transit-high : r .transit ≤ T * row l .transit
-  pub mutex-low : row l .mutex ≤ r .mutex
-  pub mutex-high : r .mutex ≤ M * row l .mutex
-  pub mutex-most : r .mutex ≤ M
-  pub observed-low : row l .observed ≤ r .observed .processor
-  pub observed-high : r .observed .processor ≤ P * row l .observed
-  pub observed-sequence-low : row l .observed ≤ r .observed .sequence
-  pub observed-sequence-high : r .observed .sequence ≤ 4000 * row l .observed
-  pub sequence : r .sequence ≤ 4000
-  pub answer : r .answer ≤ 2
+-- the registers of a processor at line l, and the fields of a mutex: sequence numbers go to 4,000
+abbrev pub Registers : ℕ → ℕ → ℕ → Line → reference.Processor → Type 0
+Registers P T M l r = local.Registers P T M 4000 l r
 
--- the fields of a mutex
 pub record Ranges (P T : ℕ) (x : reference.Mutex) : Type 0 where
   pub count : x .count ≤ T + 1
-  pub queue : sum (out T) (x .queue) ≡ 0
-  pub owner : x .owner ≤ T
-  pub token : x .token .processor ≤ P
-  pub token-low : some (x .token .processor) ≤ x .token .sequence
-  pub token-high : x .token .sequence ≤ 4000 * some (x .token .processor)
+  pub sound : Sound P T 4000 x
 
 pub record Regular (s : reference.State) : Type 0 where
   pub p-range : In 8 (s .P)
@@ -189,7 +172,7 @@ no-weight : (t : ℕ) → sum (out t) [] ≡ 0
 unfolding sum
 no-weight t = refl
 
--- the look number of r queues, as the rule says it
+-- the probe of r queues, as the rule says it
 probe-fits : (r n : ℕ) (l : Line) → ProbeFits r l n → leb n ((r - 1) * probes l) ≡ true
 probe-fits r n l h = by (same-line l CI2) (h .most) (h .zero)
   where
@@ -223,7 +206,7 @@ module _ (s : reference.State) (g : Regular s) where
   queue-threads : (q : ℕ) → every (in-range 1 (s .T)) (queue-at s q) ≡ true
   queue-threads =
       by-number s (λ q l. every (in-range 1 (s .T)) l ≡ true) (g .placed .count) (λ q. queue-fits (s .T) [] (no-weight (s .T))) ready-threads
-      (λ m l u. queue-fits (s .T) (mutex-at s m .queue) (g .mutex m (omega (arith, g .placed .mutexes)) .queue))
+      (λ m l u. queue-fits (s .T) (mutex-at s m .queue) (g .mutex m (omega (arith, g .placed .mutexes)) .sound .queue))
 
   pub regular-fits : Fits s
   regular-fits = record { placed = g .placed; p-most = g .p-range .1; m-most = g .m-range .1; t-most = g .t-range .1; queues = queue-threads }
@@ -247,15 +230,10 @@ module _ (s : reference.State) (g : Regular s) where
       (register-fits (row (x .position) .transit) (s .T) (x .transit) (w .transit) (t .transit-low) (t .transit-high)))
       (register-fits (row (x .position) .mutex) (s .M) (x .mutex) (w .mutex) (t .mutex-low) (t .mutex-high)))
       (register-fits (row (x .position) .observed) (s .P) (x .observed .processor) (w .observed) (t .observed-low) (t .observed-high)))
-      (token-fits (s .P) (token-record (x .observed)) (most (row (x .position) .observed) (w .observed) (t .observed-high)) (rw e (t .observed-sequence-low)) (rw e (t .observed-sequence-high))))
+      (token-fits (s .P) (token-record (x .observed)) (t .observed-most) (rw e (t .observed-sequence-low)) (rw e (t .observed-sequence-high))))
       (le-leb (x .sequence) 4000 (t .sequence)))
       (le-leb (x .answer) 2 (t .answer)))
       (probe-fits (reference.queues (s .stealing) (s .P)) (x .probe) (x .position) (rw (g .placed .count) at (g .probe p i))))
-    where
-      most : (c : ℕ) → c ≤ 1 → processor-at s p .observed .processor ≤ s .P * c → processor-at s p .observed .processor ≤ s .P
-      most zero a b = omega arith
-      most (suc zero) a b = omega arith
-      most (suc (suc c)) a b = absurd (omega arith)
 
   mutex-fits : (m : ℕ) → In (s .M) m → mutex-ok (s .P) (s .T) (mutex-of (encode s) m) ≡ true
   unfolding mutex-ok encode
@@ -266,8 +244,8 @@ module _ (s : reference.State) (g : Regular s) where
       rw (read-mutex s regular-fits (suc m))
       (both
       (both (le-leb (x .count) (s .T + 1) (z .count))
-      (le-leb (x .owner) (s .T) (z .owner)))
-      (token-fits (s .P) (token-record (x .token)) (z .token) (z .token-low) (z .token-high)))
+      (le-leb (x .owner) (s .T) (z .sound .owner)))
+      (token-fits (s .P) (token-record (x .token)) (z .sound .token) (z .sound .token-low) (z .sound .token-zero)))
 
   -- the first of a queue that is there is a thread, and of one that is not there is none
   first-fits : (q : ℕ) → q ≤ 16 → first-of (encode s) q ≤ choose (is-queue (encode s .p) (encode s .m) (encode s .stealing) q) (s .T) 0
@@ -279,7 +257,7 @@ module _ (s : reference.State) (g : Regular s) where
       (λ i l. rw (ready-queue (s .stealing) (s .P) (s .M) i (omega (arith, g .placed .count)) (g .m-range .1)) (first-most (s .T) (reference.queue-at s i) (ready-threads i l)))
       (λ m l u.
       rw (true-range 1 (s .M) m (l .0) (omega (arith, g .placed .mutexes)))
-      (first-most (s .T) (mutex-at s m .queue) (queue-fits (s .T) (mutex-at s m .queue) (g .mutex m (omega (arith, g .placed .mutexes)) .queue)))) q)
+      (first-most (s .T) (mutex-at s m .queue) (queue-fits (s .T) (mutex-at s m .queue) (g .mutex m (omega (arith, g .placed .mutexes)) .sound .queue)))) q)
 
   thread-fits : (k : ℕ) → In (s .T) k → thread-ok (s .P) (s .T) (s .M) (s .stealing) (thread-of (encode s) k) ≡ true
   unfolding thread-ok encode
@@ -300,7 +278,7 @@ module _ (s : reference.State) (g : Regular s) where
           (λ m l u o.
           subst (λ (x : Thread). thread-ok (s .P) (s .T) (s .M) (s .stealing) x ≡ true) (sym (mutex-as m (behind k (mutex-at s m .queue)) (omega arith)))
           (both (true-range 1 (s .M) m (l .0) (omega (arith, g .placed .mutexes)))
-          (le-leb (behind k (mutex-at s m .queue)) (s .T) (behind-most (s .T) k (mutex-at s m .queue) (queue-fits (s .T) (mutex-at s m .queue) (g .mutex m (omega (arith, g .placed .mutexes)) .queue))))))
+          (le-leb (behind k (mutex-at s m .queue)) (s .T) (behind-most (s .T) k (mutex-at s m .queue) (queue-fits (s .T) (mutex-at s m .queue) (g .mutex m (omega (arith, g .placed .mutexes)) .sound .queue))))))
           q a
       by (Spot.current p) a = both (true-range 1 (s .P) p (a .0 .0) (a .0 .1)) refl
       by (Spot.transit p) a = both (true-range 1 (s .P) p (a .0 .0) (a .0 .1)) refl
@@ -331,7 +309,7 @@ module _ (s : reference.State) (g : Regular s) where
         count = g .placed .count;
         fields = say-fields (encode s) fields;
         ready = ready-threads;
-        queues = λ m i. queue-fits (s .T) (mutex-at s m .queue) (g .mutex m i .queue);
+        queues = λ m i. queue-fits (s .T) (mutex-at s m .queue) (g .mutex m i .sound .queue);
         one-place = g .placed .one-place;
       }
 
@@ -367,7 +345,7 @@ module _ (s : reference.State) (h : Allowed s) where
       let f = (
       leb-true (x .count) (s .T + 1) and leb-true (x .owner) (s .T) and fits-token (s .P) (token-record (x .token))
       ) (rw (read-mutex s (allowed-fits s h) m) at e) in
-      omega (arith, f .0 .0, f .0 .1, f .1, fits-queue (s .T) (x .queue) (h .queues m i))
+      omega (arith, f .0 .0, f .0 .1, f .1, some-one (x .token .processor), fits-queue (s .T) (x .queue) (h .queues m i))
 
   known : (p : ℕ) → In (s .P) p → Registers (s .P) (s .T) (s .M) (processor-at s p .position) (processor-at s p) × (leb (processor-at s p .probe) ((reference.queues (s .stealing) (s .P) - 1) * probes (processor-at s p .position)) ≡ true)
   unfolding encode

@@ -10,7 +10,7 @@ use lib.ListN.{length}
 use borrow.Author.Tests.{leb-false, lt-leb, not-true}
 use Rattle.state.specs.Rules.{every, no-twice}
 use Rattle.reference.specs.Lists.{at, in-range, sum, occurrences, each}
-use Rattle.reference.specs.Snapshot.{stands-in}
+use Rattle.reference.specs.Picture.{stands-in}
 use Rattle.reference.proofs.Tests.{both, both-left, both-right, true-range}
 use Rattle.reference.proofs.Sums.{is-same, is-other}
 use Rattle.association.proofs.Queues.{occurs-cons}

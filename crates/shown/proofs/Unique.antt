@@ -1,4 +1,4 @@
--- A record that keeps the rules shows exactly one state, which is allowed, and an allowed state is shown by exactly one such record.
+-- A record that keeps the rules shows one state, which is allowed, and an allowed state is shown by one such record; what is known of a session's record.
 -- Assumes nothing.
 use Prim.Native.Nat.{ℕ}
 use mathlib.Core.Bool.{true}
@@ -8,22 +8,18 @@ use Rattle.state.specs.declared.Session.{Session}
 use Rattle.state.specs.Association.{encode, decode, queue-at, thread-row, processor-record, mutex-record, session-record}
 use Rattle.state.specs.Rules.{state-ok, session-ok}
 use Rattle.state.specs.Allowed.{Allowed}
-use Rattle.state.proofs.Sized.{Sized}
+use Rattle.state.specs.Record.{Sized}
 use Rattle.reference.specs.Lists.{in-range}
 use Rattle.reference.specs.State as reference
 use Rattle.reference.specs.State.{processor-at, mutex-at}
-use Rattle.reference.specs.Snapshot.{first}
+use Rattle.reference.specs.Picture.{first}
 use Rattle.reference.specs.Safe.{In}
 use Rattle.reference.proofs.Tests.{both, both-left, both-right, range-true, true-range}
 use Rattle.reference.proofs.Sums.{length-tabulate}
+use Rattle.shown.specs.Unique.{OneToOne}
 use Rattle.shown.proofs.Encode.{encode-decode, decode-allowed}
 use Rattle.shown.proofs.Decode.{decode-encode, encode-ok}
-
--- the record keeps the rules and shows the state
-pub record Shows (r : State) (s : reference.State) : Type 0 where
-  pub sized : Sized r
-  pub kept : state-ok r ≡ true
-  pub shown : decode r ≡ s
+use Rattle.shown.proofs.Reached.{reached-allowed}
 
 pub encode-sized : (s : reference.State) → Sized (encode s)
 unfolding encode
@@ -35,21 +31,15 @@ encode-sized s =
       threads = length-tabulate (thread-row s) 0 33;
     }
 
--- an allowed state is shown by its record,
-pub allowed-shown : (s : reference.State) → Allowed s → Shows (encode s) s
-allowed-shown s h = record { sized = encode-sized s; kept = encode-ok s h; shown = decode-encode s h }
-
--- by no other,
-pub shown-by : (r : State) (s : reference.State) → Shows r s → r ≡ encode s
-shown-by r s h = sym (encode-decode r (h .sized) (h .kept)) ∙ ap encode (h .shown)
-
--- and what is shown is allowed
-pub shown-allowed : (r : State) (s : reference.State) → Shows r s → Allowed s
-shown-allowed r s h = rw (← (h .shown)) (decode-allowed r (h .sized) (h .kept))
-
--- two allowed states with one record are the same
-pub encode-one : (s e : reference.State) → Allowed s → Allowed e → encode s ≡ encode e → s ≡ e
-encode-one s e h g z = sym (decode-encode s h) ∙ ap decode z ∙ decode-encode e g
+pub one-to-one : OneToOne
+one-to-one =
+    record {
+      shows = λ r v. (decode-allowed r (v .0) (v .1), encode-decode r (v .0) (v .1));
+      is-shown = λ s h. ((encode-sized s, encode-ok s h), decode-encode s h);
+      one-record = λ r e v w d. sym (encode-decode r (v .0) (v .1)) ∙ ap encode d ∙ encode-decode e (w .0) (w .1);
+      one-state = λ s e h g z. sym (decode-encode s h) ∙ ap decode z ∙ decode-encode e g;
+      reached = λ c ms e ok. reached-allowed c e ms ok;
+    }
 
 -- ---- session records
 

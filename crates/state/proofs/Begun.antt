@@ -13,7 +13,7 @@ use Rattle.reference.specs.State.{queues}
 use Rattle.state.specs.declared.Processor.{Processor}
 use Rattle.state.specs.Record.{zero-thread}
 use Rattle.state.specs.Association.{ready-index, queued-as}
-use Rattle.state.specs.Model.{standing-at, first-processor, first-index, first-thread, first-first}
+use Rattle.state.specs.model.Access.{standing-at, first-processor, first-index, first-thread, first-first}
 use Rattle.state.proofs.Branch.{if-none, if-some}
 
 -- ---- a processor

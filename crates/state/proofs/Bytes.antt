@@ -11,7 +11,7 @@ use lib.ListN.{length, getD, set, take, replicate}
 use Rattle.state.specs.declared.Thread.{Thread}
 use Rattle.state.specs.declared.Chains.{Chains}
 use Rattle.state.specs.Record.{zero-thread, thread-in}
-use Rattle.state.specs.Model.{next-of, queued-in, linked-to, last-from, taken, joined, bytes-of, thread-from, with-thread, found, last-in, joined-firsts, joined-threads}
+use Rattle.state.specs.model.Access.{next-of, queued-in, linked-to, last-from, taken, joined, bytes-of, thread-from, with-thread, taken-in, last-in, joined-firsts, joined-threads}
 use Rattle.reference.specs.Lists.{choose, tabulate}
 use Rattle.reference.proofs.Sums.{length-tabulate, tabulate-getD}
 use Rattle.state.proofs.Table.{tabulate-same}
@@ -81,9 +81,9 @@ last-on b fuel k h = rw (ne-eqb _ _ h)
 
 -- ---- what a queue shows, and joining one
 
-pub found-taken : (c : Chains) (q : ℕ) → found (getD (c .firsts) q 0) (getD (bytes-of (c .threads)) (3 * getD (c .firsts) q 0 + 2) 0) ≡ taken c q
+pub taken-bytes : (c : Chains) (q : ℕ) → taken-in (c .firsts) (bytes-of (c .threads)) q ≡ taken c q
 unfolding taken
-found-taken c q = rw (bytes-next (c .threads) (getD (c .firsts) q 0))
+taken-bytes c q = rw (bytes-next (c .threads) (getD (c .firsts) q 0))
 
 module _ (f g : List ℕ) (ts us : List Thread) where
   choose-firsts : (b : Bool) → choose b f g ≡ choose {A = Chains} b (record { firsts = f; threads = ts }) (record { firsts = g; threads = us }) .firsts

@@ -3,7 +3,7 @@ pub mod Branch
 pub mod Begun
 pub mod Numbers
 pub mod Past
-pub mod Model
+pub mod Joining
 pub mod Fill
 pub mod Sized
 pub mod Table

@@ -1,21 +1,16 @@
--- The lengths of the record's arrays. A function has them of a record that it is handed, and of one that a call gives it.
+-- The lengths of the record's arrays, as a function has them of a record that it is handed, and of one that a call gives it.
 -- Assumes nothing.
-use mathlib.Core.Path.{_≡_, sym, _∙_}
+use mathlib.Core.Path.{sym, _∙_}
 use mathlib.Core.List.{List}
-use lib.ListN.{length, length-map}
+use lib.ListN.{length-map}
 use mir.Val.{Val}
 use denote.Shadow.{shadow}
 use denote.Struct.Declared.{row}
 use Rattle.state.specs.declared.State.{State}
 use Rattle.state.specs.declared.Session.{Session}
+use Rattle.state.specs.Record.{Sized}
 use Rattle.state.proofs.State as state
 use Rattle.state.proofs.Session as session
-
-pub record Sized (r : State) : Type 0 where
-  pub processors : length (r .processors) ≡ 9
-  pub mutexes : length (r .mutexes) ≡ 9
-  pub firsts : length (r .chains .firsts) ≡ 17
-  pub threads : length (r .chains .threads) ≡ 33
 
 -- of a parameter `self`, the first of a function: `sized (c .good .0)`; of a call's result: `sized (c .f .ok)`
 pub sized : {r : State} {vs : List Val} → shadow (row state.the-type .own r vs) → Sized r

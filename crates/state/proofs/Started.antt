@@ -15,7 +15,7 @@ use Rattle.reference.specs.State.{App, CI2, queues, nobody, processor-at, mutex
 use Rattle.reference.specs.Start as reference-start
 use Rattle.reference.specs.Start.{Config, config-cause, idle-at, first-queue, start}
 use Rattle.reference.specs.Safe.{In}
-use Rattle.reference.specs.Snapshot.{Entry, entry, thread-entry, first, behind, stands-in, or-else, unheld}
+use Rattle.reference.specs.Picture.{Entry, entry, thread-entry, first, behind, stands-in, or-else, unheld}
 use Rattle.reference.proofs.Tests.{true-range}
 use Rattle.reference.proofs.Sums.{around-in, choose-by, length-tabulate, tabulate-at}
 use Rattle.reference.proofs.Invariant.{some-queue}
@@ -23,7 +23,7 @@ use Rattle.reference.proofs.Dealt.{first-queue-first, first-queue-stands, first
 use Rattle.reference.proofs.Start.{Ranges, ranges, processor-start, mutex-start, life-start}
 use Rattle.state.specs.Record.{zero-mutex}
 use Rattle.state.specs.Association.{queued-as, processor-record, mutex-record, thread-record, thread-row, queue-at, encode}
-use Rattle.state.specs.Model.{standing-at, first-processor, first-index, first-thread, first-first, start-record}
+use Rattle.state.specs.model.Access.{standing-at, first-processor, first-index, first-thread, first-first, start-record}
 use Rattle.state.proofs.Table.{tabulate-same, tabulate-all, find-nowhere, find-none, find-first}
 use Rattle.state.proofs.Branch.{if-none, if-some}
 use Rattle.state.proofs.Begun.{first-single, first-no-single, first-each, first-no-each}

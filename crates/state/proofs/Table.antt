@@ -9,10 +9,6 @@ use lib.ListN.{replicate}
 use Rattle.reference.specs.Lists.{tabulate, find}
 
 module _ {A : Type 0} where
-  pub tabulate-more : (f : ℕ → A) (a n : ℕ) → tabulate f a (suc n) ≡ f a ∷ tabulate f (suc a) n
-  unfolding tabulate
-  tabulate-more f a n = refl
-
   pub tabulate-same : (f g : ℕ → A) (a n : ℕ) → ((i : ℕ) → a ≤ i → i < a + n → f i ≡ g i) → tabulate f a n ≡ tabulate g a n
   unfolding tabulate
   tabulate-same f g a zero h = refl

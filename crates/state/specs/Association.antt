@@ -14,7 +14,7 @@ use Rattle.state.specs.Record.{zero-thread, thread-of, processor-of, mut
 use Rattle.reference.specs.Lists.{tabulate, choose, if-zero, in-range}
 use Rattle.reference.specs.State as reference
 use Rattle.reference.specs.State.{Life, new, live, terminated, queues, row, line-of, processor-at, mutex-at}
-use Rattle.reference.specs.Snapshot.{Entry, thread-entry, first}
+use Rattle.reference.specs.Picture.{Entry, thread-entry, first}
 
 -- ---- the record of a state
 

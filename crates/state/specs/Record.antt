@@ -1,14 +1,22 @@
--- Reads of the record's arrays, at any index: past the end a read gives the zero record.
+-- The record's arrays: their lengths, and reads at any index; past the end a read gives the zero record.
 -- Assumes nothing.
 use Prim.Native.Nat.{ℕ, zero, suc}
 use mathlib.Core.List.{List, [], _∷_}
-use lib.ListN.{getD, replicate}
+use mathlib.Core.Path.{_≡_}
+use lib.ListN.{length, getD, replicate}
 use Rattle.state.specs.declared.Thread.{Thread}
 use Rattle.state.specs.declared.Token.{Token}
 use Rattle.state.specs.declared.Processor.{Processor}
 use Rattle.state.specs.declared.Mutex.{Mutex}
 use Rattle.state.specs.declared.State.{State}
 use Rattle.state.specs.declared.Session.{Session}
+
+-- the arrays have their declared lengths, as in every record that an entry point is handed or gives
+pub record Sized (r : State) : Type 0 where
+  pub processors : length (r .processors) ≡ 9
+  pub mutexes : length (r .mutexes) ≡ 9
+  pub firsts : length (r .chains .firsts) ≡ 17
+  pub threads : length (r .chains .threads) ≡ 33
 
 abbrev pub zero-thread : Thread
 zero-thread = record { status = 0; holder = 0; next = 0 }

@@ -3,6 +3,7 @@
 use Prim.Native.Nat.{ℕ, _+_, _-_, _*_}
 use mathlib.Core.Bool.{Bool, true, _&&_, _||_, not}
 use mathlib.Core.List.{List, [], _∷_}
+use mathlib.Core.Path.{_≡_}
 use lib.Dec.{eqb, leb, ltb}
 use Rattle.state.specs.declared.Thread.{Thread}
 use Rattle.state.specs.declared.Token.{Token}
@@ -10,11 +11,11 @@ use Rattle.state.specs.declared.Processor.{Processor}
 use Rattle.state.specs.declared.Mutex.{Mutex}
 use Rattle.state.specs.declared.State.{State}
 use Rattle.state.specs.declared.Session.{Session}
-use Rattle.state.specs.Record.{thread-of, processor-of, mutex-of, first-of, chain}
+use Rattle.state.specs.Record.{Sized, thread-of, processor-of, mutex-of, first-of, chain}
 use Rattle.reference.specs.Refusal.{bad-field, bad-chain, bad-holder, refuse}
 use Rattle.reference.specs.Lists.{choose, if-zero, in-range, each}
 use Rattle.reference.specs.State.{queues, row, probes, line-of}
-use Rattle.reference.specs.Snapshot.{stands-in}
+use Rattle.reference.specs.Picture.{stands-in}
 use Rattle.state.specs.Association.{queued-as}
 
 -- the test holds of each member
@@ -158,3 +159,10 @@ state-ok r = eqb (broken-rule r) 0 && zero-past r
 -- and B is 1 to T
 unfoldable pub session-ok : Session → Bool
 session-ok r = state-ok (r .state) && in-range 1 (r .state .t) (r .initial)
+
+-- a record that keeps the rules: a state's, and a session's
+abbrev pub Valid : State → Type 0
+Valid r = Sized r × (state-ok r ≡ true)
+
+abbrev pub ValidSession : Session → Type 0
+ValidSession r = Sized (r .state) × (session-ok r ≡ true)

@@ -1,9 +1,7 @@
 // The zero records, and reads and writes of the record's arrays at any index: past the end a read gives zero and a write does nothing.
 ghost use mathlib.Core.Path.{_≡_};
 ghost use lib.ListN.{set};
-ghost use Rattle.state.specs.Record.{zero-processor, zero-mutex, zero-thread, processor-in, mutex-in, processor-of, mutex-of};
-ghost use Rattle.state.specs.Model.{with-processor, with-mutex, with-chains};
-use crate::Chains;
+ghost use Rattle.state.specs.Record.{zero-processor, zero-mutex, zero-thread, processor-in, mutex-in, processor-of};
 use crate::Mutex;
 use crate::Processor;
 use crate::State;
@@ -103,37 +101,5 @@ impl State {
     {
         let processors = self.processors;
         processor_at(processors, p)
-    }
-
-    pub fn mutex(self, m: u8) -> Mutex
-        ensures { λ r. ⌜ r ≡ mutex-of self m ⌝ }
-    {
-        let mutexes = self.mutexes;
-        mutex_at(mutexes, m)
-    }
-
-    pub fn with_processor(mut self, p: u8, r: Processor) -> State
-        ensures { λ s. ⌜ s ≡ with-processor p r self ⌝ }
-    {
-        let processors = self.processors;
-        let next = with_processor(processors, p, r);
-        self.processors = next;
-        self
-    }
-
-    pub fn with_mutex(mut self, m: u8, x: Mutex) -> State
-        ensures { λ s. ⌜ s ≡ with-mutex m x self ⌝ }
-    {
-        let mutexes = self.mutexes;
-        let next = with_mutex(mutexes, m, x);
-        self.mutexes = next;
-        self
-    }
-
-    pub fn with_chains(mut self, chains: Chains) -> State
-        ensures { λ s. ⌜ s ≡ with-chains chains self ⌝ }
-    {
-        self.chains = chains;
-        self
     }
 }

@@ -28,14 +28,3 @@ pub fn first_at(firsts: [u8; 17], q: u8) -> u8
     let i = q as usize;
     if i < 17 { firsts[i] } else { 0 }
 }
-
-pub fn with_first(firsts: [u8; 17], q: u8, k: u8) -> [u8; 17]
-    ensures { λ r. ⌜ r ≡ set firsts q k ⌝ }
-{
-    let i = q as usize;
-    let mut next = firsts;
-    if i < 17 {
-        next[i] = k;
-    }
-    next
-}

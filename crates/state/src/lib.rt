@@ -1,7 +1,10 @@
 // The machine's record as structs by value, with its queues as chains of threads.
 pub mod access;
 pub mod chain;
+pub mod layout;
 pub mod queues;
+pub mod range;
+pub mod refusal;
 pub mod start;
 
 pub struct Position {}
@@ -65,7 +68,7 @@ pub struct Token {
     pub sequence: u16,
 }
 
-// current: the loaded thread; transit: the hand; observed: the seen token; sequence: its own rank; probe: the look number, at CI2.
+// current: the thread that it runs; transit: one on its way; observed: the token that it has seen; sequence: that of its last token; probe: which ready queue it looks at, at CI2.
 pub struct Processor {
     pub position: u8,
     pub current: u8,

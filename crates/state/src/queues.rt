@@ -4,7 +4,7 @@ ghost use Prim.Native.Nat.{_+_, _*_};
 ghost use lib.ListN.{getD, set};
 ghost use Rattle.reference.specs.Lists.{tabulate};
 ghost use Rattle.reference.specs.State.{queues};
-ghost use Rattle.state.specs.Model.{queued-in, found, bytes-of, thread-from, with-thread, last-in, joined-firsts, joined-threads};
+ghost use Rattle.state.specs.model.Access.{queued-in, taken-in, bytes-of, thread-from, with-thread, last-in, joined-firsts, joined-threads};
 use crate::Thread;
 
 // Past the end a read gives 0, and a write does nothing.
@@ -53,14 +53,16 @@ pub enum Taken {
     Nothing,
 }
 
-// By the queue's first and that one's next.
-pub fn found(first: u8, next: u8) -> Taken
-    ensures { λ r. ⌜ r ≡ found first next ⌝ }
+// Takes from queue q: what it finds, while the queue stays as it is until the thread is moved.
+pub fn take(firsts: &[u8], threads: &[u8], q: u8) -> Taken
+    ensures { λ r. ⌜ r ≡ taken-in (now (firsts .entry)) (now (threads .entry)) q ⌝ }
 {
+    let first = get(firsts, q as usize);
+    let rest = next_in(threads, first);
     if first == 0 {
         Taken::Nothing
     } else {
-        Taken::Thread(first, next)
+        Taken::Thread(first, rest)
     }
 }
 

@@ -4,7 +4,7 @@ ghost use Prim.Native.Nat.{_+_};
 ghost use lib.Dec.{leb};
 ghost use Rattle.reference.specs.Lists.{choose, around, tabulate};
 ghost use Rattle.state.specs.Record.{zero-state};
-ghost use Rattle.state.specs.Model.{first-processor, first-index, first-thread, first-first, start-record};
+ghost use Rattle.state.specs.model.Access.{first-processor, first-index, first-thread, first-first, start-record};
 use crate::Chains;
 use crate::Mutex;
 use crate::Position;

@@ -8,24 +8,23 @@ use native.Mathlib.Omega.{arith}
 use lib.Dec.{eqb, leb}
 use lib.ListN.{length, getD, set, length-set}
 use lib.Seq.{set-getD}
-use borrow.Author.Tests.{ne-eqb, le-leb, lt-leb, leb-false, eqb-true, eqb-false}
+use borrow.Author.Tests.{eq-eqb, ne-eqb, le-leb, lt-leb, leb-false, eqb-true, eqb-false}
 use Rattle.reference.specs.Lists.{choose, in-range}
 use Rattle.reference.specs.Refusal.{refuse}
 use Rattle.state.specs.declared.Thread.{Thread}
 use Rattle.state.specs.declared.Processor.{Processor}
 use Rattle.state.specs.declared.Mutex.{Mutex}
 use Rattle.state.specs.declared.State.{State}
-use Rattle.state.specs.Record.{zero-mutex, processor-in, mutex-in, processor-of, mutex-of, thread-of}
-use Rattle.state.specs.Model.{bytes-of, with-applied}
-use Rattle.state.proofs.Sized.{Sized}
-use Rattle.state.proofs.Bytes.{found-taken, bytes-status, bytes-length}
+use Rattle.state.specs.Record.{zero-mutex, processor-in, mutex-in, processor-of, mutex-of, thread-of, Sized}
+use Rattle.state.specs.model.Access.{bytes-of, with-applied}
+use Rattle.state.proofs.Bytes.{taken-bytes, bytes-status, bytes-length}
 use Rattle.step.specs.declared.View.{View}
 use Rattle.step.specs.declared.Effect.{Effect}
-use Rattle.step.specs.declared.Outcome.{Outcome}
+use Rattle.step.specs.declared.Decision.{Decision}
 use Rattle.step.specs.declared.Moved.{Moved}
 use Rattle.step.specs.declared.Run.{Run}
 use Rattle.step.specs.declared.Sizes.{Sizes}
-use Rattle.step.specs.Model.{target-of, index-of, view-of, seen-of, carried, carried-firsts, carried-threads, act-effect, up-to, gathered-of, cause-of, step-breaks-of, refusal-of, stepped-of, moved-of, moved-at, sizes-of, cause-seen, go-refusal, call-refusal, act-outcome, ran, run-from, run-of, noted, noted-at, counted-from, counted-of}
+use Rattle.step.specs.model.Moves.{target-of, index-of, view-of, seen-of, carried, carried-firsts, carried-threads, act-effect, up-to, gathered-of, move-view, cause-of, cause-seen, step-breaks-of, refusal-of, stepped-of, moved-of, moved-at, sizes-of, act-outcome, refusal-seen, decision, ran, run-from, run-of, noted, noted-at, counted-from, counted-of}
 use Rattle.step.proofs.Keeps.{keeps}
 use Rattle.step.proofs.Put.{carried-first, carried-bytes, length-firsts, length-threads}
 
@@ -34,38 +33,13 @@ use Rattle.step.proofs.Put.{carried-first, carried-bytes, length-firsts
 seen-view : (s : State) (p m : ℕ) (b : List ℕ) (r : Processor) (x : Mutex) → b ≡ bytes-of (s .chains .threads) → r ≡ processor-of s p → x ≡ mutex-of s m →
     seen-of (s .chains .firsts) b (s .stealing) (s .p) p r m x ≡ view-of s p m
 seen-view s p m b r x b-is r-is x-is =
-    rw (b-is, r-is, x-is, found-taken (s .chains) m, found-taken (s .chains) (index-of (s .stealing) (s .p) p (processor-of s p)))
+    rw (b-is, r-is, x-is, taken-bytes (s .chains) m, taken-bytes (s .chains) (index-of (s .stealing) (s .p) p (processor-of s p)))
 
--- ---- why it is refused: before it is tried, and once it is tried
-
-module _ (s : State) (p a o : ℕ) where
-  -- the mutex that it works on
-  abbrev at : ℕ
-  at = target-of a (processor-of s p .mutex) o
-
-  -- only an unlock asks for the owner, and it works on its operand
-  owner-same : (b : Bool) → eqb a 3 ≡ b →
-      b && not (eqb (mutex-of s at .owner) (processor-of s p .current)) ≡ b && not (eqb (mutex-of s o .owner) (processor-of s p .current))
-  owner-same false e = refl
-  owner-same true e = rw (eqb-true a 3 e)
-
-  cause-call : (a ≡ 0 → ⊥) → cause-seen (sizes-of s) (view-of s p at) (thread-of s o .status) a o ≡ cause-of s p a o
-  unfolding cause-seen call-refusal cause-of
-  cause-call h = rw (ne-eqb a 0 h, owner-same (eqb a 3) refl)
-
-cause-is : (s : State) (p a o : ℕ) →
-    cause-seen (sizes-of s) (view-of s p (at s p a o)) (thread-of s o .status) a o ≡ cause-of s p a o
-unfolding cause-seen go-refusal cause-of
-cause-is s p zero o = refl
-cause-is s p (suc a) o = cause-call s p (suc a) o (λ e. omega arith)
-
-refused-is : (s : State) (p a o : ℕ) → (cause-of s p a o ≡ 0 → ⊥) → cause-of s p a o ≡ refusal-of s p a o
-unfolding refusal-of
-refused-is s p a o h = rw (ne-eqb (cause-of s p a o) 0 h)
+-- ---- why it is refused
 
 -- an action that is none is refused
 no-action : (s : State) (p a o : ℕ) → 6 < a → cause-of s p a o ≡ 0 → ⊥
-unfolding cause-of
+unfolding cause-seen
 no-action s p a o h e = by (not (in-range 1 (s .p) p)) (leb a 6) _ _ (lt-leb a 6 h) e
   where
     by : (x t b : Bool) (n : ℕ) → t ≡ false → refuse x 2 (refuse (not (t && b)) 3 n) ≡ 0 → ⊥
@@ -75,23 +49,37 @@ no-action s p a o h e = by (not (in-range 1 (s .p) p)) (leb a 6) _ _ (lt-leb a 6
 
 -- it is tried: refused by 15 or not at all
 tried-is : (s : State) (p a o : ℕ) → cause-of s p a o ≡ 0 →
-    refusal-of s p a o ≡ choose (act-outcome (s .t) a o (view-of s p (at s p a o)) .broken) 15 0
-unfolding refusal-of step-breaks-of act-outcome
-tried-is s p zero o z = rw z
-tried-is s p (suc a) o z = rw (z, ne-eqb (suc a) 0 (λ e. omega arith)) (by _ (leb (suc a) 6) refl)
+    _≡_ {A = ℕ} (choose (act-outcome (s .t) a o (move-view s p a o) .broken) 15 0) (choose (step-breaks-of s p a) 15 0)
+unfolding step-breaks-of act-outcome
+tried-is s p zero o z = refl
+tried-is s p (suc a) o z = rw (ne-eqb (suc a) 0 (λ e. omega arith)) (by _ (leb (suc a) 6) refl)
   where
-    by : (broken t : Bool) → leb (suc a) 6 ≡ t → _≡_ {A = ℕ} 0 (choose (not (in-range 1 6 (suc a)) && broken) 15 0)
+    by : (broken t : Bool) → leb (suc a) 6 ≡ t → _≡_ {A = ℕ} (choose (not (in-range 1 6 (suc a)) && broken) 15 0) 0
     by broken true e = rw (le-leb 1 (suc a) (omega arith), e)
     by broken false e = absurd (no-action s p (suc a) o (leb-false (suc a) 6 e) z)
+
+-- the refusal of its decision
+decided : (s : State) (p a o : ℕ) → refusal-seen (sizes-of s) (move-view s p a o) (thread-of s o .status) a o ≡ refusal-of s p a o
+unfolding refusal-seen refusal-of
+decided s p a o = by (eqb (cause-of s p a o) 0) refl
+  where
+    by : (b : Bool) → eqb (cause-of s p a o) 0 ≡ b →
+        choose b (choose (act-outcome (s .t) a o (move-view s p a o) .broken) 15 0) (cause-of s p a o) ≡ choose b (choose (step-breaks-of s p a) 15 0) (cause-of s p a o)
+    by true e = tried-is s p a o (eqb-true (cause-of s p a o) 0 e)
+    by false e = refl
 
 -- ---- what it makes
 
 module _ (s : State) (p a o : ℕ) where
+  -- the mutex that it works on
+  abbrev at : ℕ
+  at = target-of a (processor-of s p .mutex) o
+
   abbrev e : Effect
-  e = act-effect a o (view-of s p (at s p a o))
+  e = act-effect a o (move-view s p a o)
 
   pub stepped-is : gathered-of s (carried-firsts (s .chains .firsts) (e .transfer)) (carried (s .chains) p (e .transfer) .threads) (set (s .processors) p (e .proc))
-      (set (s .mutexes) (at s p a o) (e .mutex)) (up-to 65535 (s .applied)) ≡ stepped-of s p a o
+      (set (s .mutexes) at (e .mutex)) (up-to 65535 (s .applied)) ≡ stepped-of s p a o
   unfolding stepped-of
   stepped-is = rw (carried-first (s .chains) p (e .transfer))
 
@@ -331,7 +319,7 @@ module _ {start : State} {j first : List ℕ} (here : Reading start j first) whe
   target-is : m ≡ at whole p a o
   target-is = here .target-is ∙ ap (λ (q : Processor). target-of a (q .mutex) o) (here .processor-is)
 
-  sees : v ≡ view-of whole p (at whole p a o)
+  sees : v ≡ move-view whole p a o
   sees =
       here .view-is ∙ seen-view whole p m b r (here .mutex) (g .bytes) (here .processor-is) (here .mutex-is) ∙ ap (view-of whole p) target-is
 
@@ -342,44 +330,47 @@ module _ {start : State} {j first : List ℕ} (here : Reading start j first) whe
     sym (counted-stop j (length j / 3) i whole (here .more) calls (λ q. z (e ∙ q))) ∙ g .uncounted,
   )
 
-  module _ (k : ℕ) (k-is : k ≡ cause-seen (here .sizes) v (getD b (3 * o) 0) a o) where
-    caused : k ≡ cause-of whole p a o
-    caused =
-        k-is ∙
-        ap (λ (q : Sizes). cause-seen q v (getD b (3 * o) 0) a o) (here .sizes-is) ∙
-        ap (λ (q : View). cause-seen (sizes-of s) q (getD b (3 * o) 0) a o) sees ∙
-        ap (λ (n : ℕ). cause-seen (sizes-of s) (view-of whole p (at whole p a o)) n a o)
-        (ap (λ (l : List ℕ). getD l (3 * o) 0) (g .bytes) ∙ bytes-status (g .threads) o) ∙
-        cause-is whole p a o
+  module _ (d : Decision) (d-is : d ≡ decision (here .sizes) v (getD b (3 * o) 0) a o) where
+    decides : d ≡ decision (sizes-of whole) (move-view whole p a o) (thread-of whole o .status) a o
+    decides =
+        d-is ∙
+        ap (λ (q : Sizes). decision q v (getD b (3 * o) 0) a o) (here .sizes-is) ∙
+        ap (λ (q : View). decision (sizes-of s) q (getD b (3 * o) 0) a o) sees ∙
+        ap (λ (n : ℕ). decision (sizes-of s) (move-view whole p a o) n a o)
+        (ap (λ (l : List ℕ). getD l (3 * o) 0) (g .bytes) ∙ bytes-status (g .threads) o)
 
-    pub running-stop : (k ≡ 0 → ⊥) → (ran k i whole ≡ run-of start j) × (calls ≡ counted-of start j first)
-    running-stop z = stopped k (caused ∙ refused-is whole p a o (λ q. z (caused ∙ q))) z
+    refusal-is : d .refusal ≡ refusal-of whole p a o
+    unfolding decision
+    refusal-is = ap (λ (q : Decision). q .refusal) decides ∙ decided whole p a o
 
-    module _ (z : k ≡ 0) (d : Outcome) (d-is : d ≡ act-outcome (s .t) a o v) where
-      tried : refusal-of whole p a o ≡ choose (d .broken) 15 0
-      tried =
-          tried-is whole p a o (sym caused ∙ z) ∙
-          ap (λ (q : Outcome). choose {A = ℕ} (q .broken) 15 0) (sym (d-is ∙ ap (act-outcome (s .t) a o) sees))
+    pub running-stop : (d .refusal ≡ 0 → ⊥) → (ran (d .refusal) i whole ≡ run-of start j) × (calls ≡ counted-of start j first)
+    running-stop = stopped (d .refusal) refusal-is
 
-      pub running-broken : d .broken ≡ true → (ran 15 i whole ≡ run-of start j) × (calls ≡ counted-of start j first)
-      running-broken t = stopped 15 (sym (tried ∙ rw t)) (λ q. omega arith)
+    module _ (z : d .refusal ≡ 0) where
+      accepts : eqb (refusal-seen (here .sizes) v (getD b (3 * o) 0) a o) 0 ≡ true
+      unfolding decision
+      accepts = eq-eqb _ 0 (sym (ap (λ (q : Decision). q .refusal) d-is) ∙ z)
 
       effect-is : d .effect ≡ act-effect a o v
-      unfolding act-outcome
-      effect-is = ap (λ (q : Outcome). q .effect) d-is
+      unfolding decision act-outcome
+      effect-is = ap (λ (q : Decision). q .effect) d-is ∙ rw accepts
+
+      writes-is : d .writes ≡ act-outcome (here .sizes .t) a o v .writes
+      unfolding decision
+      writes-is = ap (λ (q : Decision). q .writes) d-is ∙ rw accepts
 
       -- a mutex that is not written is as it was
       pub unwritten : d .writes ≡ false → xs ≡ set xs m (d .effect .mutex)
       unwritten w =
-          sym (ap (set xs m) (ap (λ (q : Effect). q .mutex) effect-is ∙ keeps (s .t) a o v (sym (ap (λ (q : Outcome). q .writes) d-is) ∙ w) ∙ ap (λ (q : View). q .mutex) (here .view-is) ∙ here .mutex-is) ∙
+          sym (ap (set xs m) (ap (λ (q : Effect). q .mutex) effect-is ∙ keeps (here .sizes .t) a o v (sym writes-is ∙ w) ∙ ap (λ (q : View). q .mutex) (here .view-is) ∙ here .mutex-is) ∙
           set-getD xs m zero-mutex)
 
-      module _ (w : d .broken ≡ false) (n : State) (calls' f' b' : List ℕ) (ps' : List Processor) (xs' : List Mutex)
+      module _ (n : State) (calls' f' b' : List ℕ) (ps' : List Processor) (xs' : List Mutex)
           (n-is : n ≡ with-applied (up-to 65535 (s .applied)) s) (calls-is : calls' ≡ choose (eqb a 0) calls (noted calls (r .current)))
           (f-is : f' ≡ carried-firsts f (d .effect .transfer)) (b-is : b' ≡ carried-threads f b p (d .effect .transfer))
           (ps-is : ps' ≡ set ps p (d .effect .proc)) (xs-is : xs' ≡ set xs m (d .effect .mutex)) where
         accepted : refusal-of whole p a o ≡ 0
-        accepted = tried ∙ rw w
+        accepted = sym refusal-is ∙ z
 
         abbrev threads-after : Effect → List Thread
         threads-after q = carried (whole .chains) p (q .transfer) .threads
@@ -390,7 +381,7 @@ module _ {start : State} {j first : List ℕ} (here : Reading start j first) whe
         makes : made (d .effect) m ≡ stepped-of whole p a o
         makes =
             ap (λ (q : Effect). made q m) (effect-is ∙ ap (act-effect a o) sees) ∙
-            ap (made (act-effect a o (view-of whole p (at whole p a o)))) target-is ∙
+            ap (made (act-effect a o (move-view whole p a o))) target-is ∙
             stepped-is whole p a o
 
         gathers : gathered-of n f' (threads-after (d .effect)) ps' xs' (n .applied) ≡ made (d .effect) m

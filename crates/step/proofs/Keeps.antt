@@ -14,7 +14,7 @@ use Rattle.state.specs.declared.queues.Taken.the-variants.{Thread, Nothing}
 use Rattle.step.proofs.Match.{beyond}
 use Rattle.step.specs.declared.View.{View}
 use Rattle.step.specs.declared.Effect.{Effect}
-use Rattle.step.specs.Model.{on-taken, effects, stay, writers, line-effect, act-effect, act-outcome, at-CI2, at-CI3, at-L3, at-L4, at-L6, at-L7, at-L10, at-GT1, at-H3, at-H6, at-Y1, at-Y2, at-Y3, at-C2, lock-call, trylock-call, unlock-call, yield-call, exit-call, create-call}
+use Rattle.step.specs.model.Moves.{on-taken, effects, stay, writers, line-effect, act-effect, act-outcome, at-CI2, at-CI3, at-L3, at-L4, at-L6, at-L7, at-L10, at-GT1, at-H3, at-H6, at-Y1, at-Y2, at-Y3, at-C2, lock-call, trylock-call, unlock-call, yield-call, exit-call, create-call}
 
 -- on both ways of a case
 by-taken : (q : Taken) (e : Effect) (f : ℕ → ℕ → Effect) (x : Mutex) → e .mutex ≡ x → ((k rest : ℕ) → f k rest .mutex ≡ x) → on-taken q e f .mutex ≡ x

@@ -4,3 +4,4 @@ pub mod Keeps
 pub mod Put
 pub mod Ring
 pub mod InPlace
+pub mod Split

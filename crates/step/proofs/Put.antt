@@ -9,11 +9,11 @@ use lib.ListN.{length, getD, set, length-set}
 use Rattle.reference.specs.Lists.{choose}
 use Rattle.state.specs.declared.Thread.{Thread}
 use Rattle.state.specs.declared.Chains.{Chains}
-use Rattle.state.specs.Model.{removed, placed, bytes-of, with-thread, queued-in, last-in}
+use Rattle.state.specs.model.Access.{removed, placed, bytes-of, with-thread, queued-in, last-in}
 use Rattle.state.proofs.Bytes.{bytes-set, joined-first, joined-bytes}
 use Rattle.step.specs.declared.Transfer.{Transfer}
 use Rattle.step.specs.declared.Transfer.the-variants.{Stay, Take, Join, Mark}
-use Rattle.step.specs.Model.{carried, carried-firsts, carried-threads}
+use Rattle.step.specs.model.Moves.{carried, carried-firsts, carried-threads}
 
 pub carried-first : (c : Chains) (p : ℕ) (x : Transfer) → carried-firsts (c .firsts) x ≡ carried c p x .firsts
 unfolding removed placed

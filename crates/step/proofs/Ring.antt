@@ -9,7 +9,7 @@ use lib.Dec.{ltb}
 use borrow.Author.Tests.{ltb-true}
 use Rattle.reference.specs.Lists.{in-range}
 use Rattle.reference.proofs.Tests.{_and_, range-true}
-use Rattle.step.specs.Model.{on-ring}
+use Rattle.step.specs.model.Moves.{on-ring}
 
 -- what the test of on-ring says
 pub record OnRing (n p l : ℕ) : Type 0 where

@@ -1,2 +1,2 @@
--- What the code computes on its records.
-pub mod Model
+-- Models only: the moves themselves are in reference/specs.
+pub mod model

@@ -2,7 +2,7 @@
 ghost use mathlib.Core.Path.{_≡_};
 ghost use lib.Dec.{eqb};
 ghost use Rattle.reference.specs.Lists.{choose};
-ghost use Rattle.step.specs.Model.{noted};
+ghost use Rattle.step.specs.model.Moves.{noted};
 use crate::registers::up_wide;
 
 // One more call of thread k; a thread that has no place in the list is not counted.

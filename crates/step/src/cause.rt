@@ -2,18 +2,17 @@
 ghost use mathlib.Core.Path.{_≡_};
 ghost use Prim.Native.Nat.{_*_};
 ghost use lib.ListN.{getD};
-ghost use Rattle.reference.specs.Lists.{in-range};
-ghost use Rattle.step.specs.Model.{operand-fits, go-refusal, create-refusal, call-refusal, cause-seen};
+ghost use mathlib.Core.Bool.{true, false, _&&_, not};
+ghost use lib.Dec.{eqb};
+ghost use Rattle.reference.specs.Refusal.{not-new, refuse};
+ghost use Rattle.reference.specs.Cause.{first-cause};
+ghost use Rattle.step.specs.model.Moves.{operand-fits, facts-of, cause-seen};
 use crate::Sizes;
 use crate::View;
 use state::Position;
 use state::queues::status_in;
-
-pub(crate) fn in_range(lo: u8, hi: u8, n: u8) -> bool
-    ensures { λ r. ⌜ r ≡ in-range lo hi n ⌝ }
-{
-    (lo <= n) & (n <= hi)
-}
+use state::range::in_range;
+use state::refusal::Refusal;
 
 // The operand of a call on a mutex is a mutex, that of create a thread, that of the others 0.
 pub(crate) fn operand_fits(z: Sizes, action: u8, operand: u8) -> bool
@@ -34,52 +33,52 @@ pub(crate) fn sizes(p: u8, t: u8, m: u8, applied: u16) -> Sizes
     Sizes { p, t, m, applied }
 }
 
-// A go has operand 0; at App there is no line.
+// A go of a processor that is there: its operand is 0, and at App there is no line.
 pub(crate) fn go_refusal(z: Sizes, v: View, operand: u8) -> u8
-    ensures { λ r. ⌜ r ≡ go-refusal z v operand ⌝ }
+    ensures { λ r. ⌜ r ≡ first-cause (facts-of true true z v 0 0 operand) ⌝ }
 {
     let r = v.proc;
     if operand != 0 {
-        return 3;
+        return Refusal::BAD_OPERAND;
     }
     if 4000 <= z.applied {
-        return 8;
+        return Refusal::FULL;
     }
     if r.position == Position::APP {
-        return 5;
+        return Refusal::GO_AT_APP;
     }
     0
 }
 
 // A create is of a new thread, whose status is 0. Only a create reads a status.
 pub(crate) fn create_refusal(threads: &[u8], action: u8, operand: u8) -> u8
-    ensures { λ r. ⌜ r ≡ create-refusal (getD (now (threads .entry)) (3 * operand) 0) action ⌝ }
+    ensures { λ r. ⌜ r ≡ refuse (eqb action 6 && not (eqb (getD (now (threads .entry)) (3 * operand) 0) 0)) not-new 0 ⌝ }
 {
     if action != 6 {
         return 0;
     }
     let status = status_in(threads, operand);
-    if status != 0 { 7 } else { 0 }
+    if status != 0 { Refusal::NOT_NEW } else { 0 }
 }
 
-// A call is made at App only; unlock by the owner.
+// A call of a processor that is there: it is made at App only, unlock by the owner.
 pub(crate) fn call_refusal(threads: &[u8], z: Sizes, v: View, action: u8, operand: u8) -> u8
-    ensures { λ r. ⌜ r ≡ call-refusal z v (getD (now (threads .entry)) (3 * operand) 0) action operand ⌝ }
+    ensures { λ r. ⌜ r ≡ first-cause (facts-of true false z v (getD (now (threads .entry)) (3 * operand) 0) action operand) ⌝ }
 {
     let r = v.proc;
     let x = v.mutex;
     let fits = operand_fits(z, action, operand);
     if !((action <= 6) & fits) {
-        return 3;
+        return Refusal::BAD_OPERAND;
     }
     if 4000 <= z.applied {
-        return 8;
+        return Refusal::FULL;
     }
     if r.position != Position::APP {
-        return 4;
+        return Refusal::CALL_AWAY;
     }
     if (action == 3) & (x.owner != r.current) {
-        return 6;
+        return Refusal::NOT_OWNER;
     }
     create_refusal(threads, action, operand)
 }
@@ -90,7 +89,7 @@ pub(crate) fn cause(threads: &[u8], z: Sizes, v: View, action: u8, operand: u8) 
 {
     let there = in_range(1, z.p, v.number);
     if !there {
-        return 2;
+        return Refusal::NO_PROCESSOR;
     }
     if action == 0 {
         return go_refusal(z, v, operand);

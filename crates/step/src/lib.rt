@@ -2,6 +2,7 @@
 pub mod call;
 pub mod calls;
 pub mod cause;
+pub mod deciding;
 pub mod line;
 pub mod lock;
 pub mod moves;
@@ -46,6 +47,13 @@ pub struct Effect {
 // What comes of a line or a call: whether it would break a rule, whether it may change its mutex, and its effect.
 pub struct Outcome {
     pub broken: bool,
+    pub writes: bool,
+    pub effect: Effect,
+}
+
+// A move's decision: why it is refused, or 0; whether it may change its mutex; and its effect, which leaves the view where the move is refused.
+pub struct Decision {
+    pub refusal: u8,
     pub writes: bool,
     pub effect: Effect,
 }

@@ -1,7 +1,7 @@
 // Go executes the line at which the processor stands; a move is a go or a call.
 ghost use mathlib.Core.Path.{_≡_};
 ghost use mathlib.Core.Bool.{true, false};
-ghost use Rattle.step.specs.Model.{nothing-there, outcome, line-outcome, act-outcome};
+ghost use Rattle.step.specs.model.Moves.{nothing-there, outcome, line-outcome, act-outcome};
 use crate::Effect;
 use crate::Outcome;
 use crate::View;
@@ -91,7 +91,7 @@ pub(crate) fn act(t: u8, action: u8, operand: u8, v: View) -> Outcome
         1 => keeps(call::lock(v, operand)),
         2 => keeps(call::trylock(v, operand)),
         3 => keeps(call::unlock(v, operand)),
-        4 => keeps(call::give_way(v)),
+        4 => keeps(call::yield_now(v)),
         5 => keeps(call::exit(v)),
         6 => keeps(call::create(v, operand)),
         _ => line(t, v),

@@ -1,18 +1,16 @@
 // Moves: what a processor sees, what a move makes of it, and how that is put back in place.
 ghost use mathlib.Core.Path.{_≡_};
 ghost use Rattle.reference.specs.Lists.{tabulate};
-ghost use Rattle.state.specs.Model.{thread-from};
-ghost use Rattle.step.specs.Model.{target-of, probed, on-ring, index-of, seen-of, carried-firsts, carried-threads, gathered-of, ran, run-of, counted-of, moved-of};
+ghost use Rattle.state.specs.model.Access.{thread-from};
+ghost use Rattle.step.specs.model.Moves.{target-of, probed, on-ring, index-of, seen-of, carried-firsts, carried-threads, gathered-of, ran, run-of, counted-of, moved-of};
 use crate::Moved;
 use crate::Run;
 use crate::Status;
 use crate::Transfer;
 use crate::View;
 use crate::calls::note_move;
-use crate::cause::cause;
-use crate::cause::in_range;
 use crate::cause::sizes;
-use crate::line::act;
+use crate::deciding::decide;
 use crate::registers::by_fields;
 use crate::registers::mutex_by_fields;
 use crate::registers::up_wide;
@@ -23,14 +21,13 @@ use state::Processor;
 use state::State;
 use state::Thread;
 use state::queues::bytes_of;
-use state::queues::found;
-use state::queues::get;
 use state::queues::join;
-use state::queues::next_in;
 use state::queues::put;
 use state::queues::put_thread;
 use state::queues::ready_queues;
+use state::queues::take;
 use state::queues::threads_of;
+use state::range::in_range;
 
 // The mutex that a move works on: that of a call on one, else the processor's.
 pub(crate) fn target(action: u8, mutex: u8, operand: u8) -> u8
@@ -90,13 +87,9 @@ pub(crate) fn look(
     ensures { λ v. ⌜ v ≡ seen-of (now (firsts .entry)) (now (threads .entry)) stealing n p r m x ⌝ }
 {
     let queues = ready_queues(stealing, n);
-    let waiting = get(firsts, m as usize);
-    let after = next_in(threads, waiting);
+    let queue = take(firsts, threads, m);
     let index = index_of(stealing, n, p, r);
-    let first = get(firsts, index as usize);
-    let next = next_in(threads, first);
-    let queue = found(waiting, after);
-    let ready = found(first, next);
+    let ready = take(firsts, threads, index);
     View {
         number: p,
         proc: r,
@@ -191,13 +184,9 @@ pub fn run(mut s: State, moves: &[u8], calls: &mut [u16]) -> Run
         let x = mutex_by_fields(if j < 9 { mutexes[j] } else { free });
         let v = look(&firsts, &bytes, s.stealing, s.p, p, r, m, x);
         let z = sizes(s.p, s.t, s.m, s.applied);
-        let refusal = cause(&bytes, z, v, action, operand);
-        if refusal != 0 {
-            return ended(refusal, made, s, firsts, &bytes, processors, mutexes);
-        }
-        let done = act(s.t, action, operand, v);
-        if done.broken {
-            return ended(15, made, s, firsts, &bytes, processors, mutexes);
+        let done = decide(&bytes, z, v, action, operand);
+        if done.refusal != 0 {
+            return ended(done.refusal, made, s, firsts, &bytes, processors, mutexes);
         }
         note_move(calls, action, r.current);
         let e = done.effect;

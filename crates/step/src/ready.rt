@@ -1,6 +1,6 @@
 // The lines that see the ready queue: those of an idle processor, of yield and of create.
 ghost use mathlib.Core.Path.{_≡_};
-ghost use Rattle.step.specs.Model.{at-CI2, at-CI3, at-Y1, at-Y2, at-Y3, at-C2};
+ghost use Rattle.step.specs.model.Moves.{at-CI2, at-CI3, at-Y1, at-Y2, at-Y3, at-C2};
 use crate::Effect;
 use crate::Status;
 use crate::Transfer;
@@ -13,7 +13,7 @@ use crate::registers::stays;
 use state::Position;
 use state::queues::Taken;
 
-// CI2: the ready queue that it looks at is empty: stay, and look at the next. Else its first goes to the transit register, the look number is 0; CI3.
+// CI2: an idle processor takes a ready thread and probes from 0 again; from an empty queue the probe moves on to the next.
 pub(crate) fn ci2(v: View) -> Effect
     ensures { λ e. ⌜ e ≡ at-CI2 v ⌝ }
 {
@@ -34,14 +34,14 @@ pub(crate) fn ci2(v: View) -> Effect
     }
 }
 
-// CI3: the thread in transit is loaded; App.
+// CI3 runs that thread.
 pub(crate) fn ci3(v: View) -> Effect
     ensures { λ e. ⌜ e ≡ at-CI3 v ⌝ }
 {
     load(v)
 }
 
-// Y1: the ready queue is empty: App. Else Y2.
+// Y1: yield has no effect where no thread is ready.
 pub(crate) fn y1(v: View) -> Effect
     ensures { λ e. ⌜ e ≡ at-Y1 v ⌝ }
 {
@@ -54,7 +54,7 @@ pub(crate) fn y1(v: View) -> Effect
     }
 }
 
-// Y2: the current thread goes to the transit register; Y3.
+// Y2: the current thread stops running,
 pub(crate) fn y2(v: View) -> Effect
     ensures { λ e. ⌜ e ≡ at-Y2 v ⌝ }
 {
@@ -70,14 +70,14 @@ pub(crate) fn y2(v: View) -> Effect
     }
 }
 
-// Y3: the thread in transit joins the ready queue; CI2.
+// Y3: and is ready, behind the others.
 pub(crate) fn y3(v: View) -> Effect
     ensures { λ e. ⌜ e ≡ at-Y3 v ⌝ }
 {
     join_ready(v, Position::CI2)
 }
 
-// C2: the thread in transit joins the ready queue; App.
+// C2: the created thread is ready.
 pub(crate) fn c2(v: View) -> Effect
     ensures { λ e. ⌜ e ≡ at-C2 v ⌝ }
 {

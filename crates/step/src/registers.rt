@@ -2,7 +2,7 @@
 ghost use mathlib.Core.Path.{_≡_};
 ghost use Prim.Native.Nat.{_-_};
 ghost use Rattle.state.specs.Record.{zero-token};
-ghost use Rattle.step.specs.Model.{up-to, next-probe, same-tokens, away, on-mutex, observing, tokened, effect, load, join-ready, serve};
+ghost use Rattle.step.specs.model.Moves.{up-to, next-probe, same-tokens, away, on-mutex, observing, tokened, effect, load, join-ready, serve};
 use crate::Effect;
 use crate::Status;
 use crate::Transfer;
@@ -144,7 +144,7 @@ pub(crate) fn stays(r: Processor, x: Mutex) -> Effect
     }
 }
 
-// The thread in transit is loaded; App.
+// The thread in transit becomes the current one, at App.
 pub(crate) fn load(v: View) -> Effect
     ensures { λ e. ⌜ e ≡ load v ⌝ }
 {
@@ -175,7 +175,7 @@ pub(crate) fn join_ready(v: View, position: u8) -> Effect
     }
 }
 
-// The front thread k of m's queue goes to the transit register and owns m.
+// Thread k, the first of the mutex's queue, is in transit and owns the mutex.
 pub(crate) fn serve(v: View, k: u8, rest: u8, position: u8) -> Effect
     ensures { λ e. ⌜ e ≡ serve k rest position v ⌝ }
 {

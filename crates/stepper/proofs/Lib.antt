@@ -1,4 +1,5 @@
--- The output that gathers is the answers to the input, which may be cut anywhere (Transcript); laws that the functions' proofs cite (the others).
-pub mod Pages
-pub mod Shown
+-- The output is the responses to the input's lines, however it is cut into reads (Transcript); laws that the functions' proofs cite (the others).
+pub mod Buffers
+pub mod PictureText
+pub mod Output
 pub mod Transcript

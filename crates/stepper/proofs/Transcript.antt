@@ -1,135 +1,25 @@
--- The output that gathers while a piece of the input is heard is the answers to it, and an input may be cut anywhere.
-use Prim.Native.Nat.{ℕ, _+_, _*_, _≤_, _<_}
+-- The output for an input is the responses to its lines, however it is cut into reads.
+-- Assumes nothing.
+use Prim.Native.Nat.{ℕ, _+_, _-_, _≤_, _<_}
 use native.Mathlib.Omega.{arith}
-use mathlib.Core.Bool.{Bool, true, false, cond}
-use mathlib.Core.Path.{_≡_, refl, sym, ap, subst, _∙_}
+use mathlib.Core.Bool.{Bool, true, false, _&&_, cond}
+use mathlib.Core.Logic.{_⊎_, inl, inr}
+use mathlib.Core.Path.{_≡_, refl, sym, ap, ap₂, subst, _∙_}
 use mathlib.Core.List.{List, [], _∷_, _++_, append-nil, append-assoc}
 use lib.Dec.{eqb, ltb}
-use lib.ListN.{length, take, drop, length-append, length-drop}
-use lib.Seq.{take-at, length-take-le}
-use borrow.Author.Tests.{le-leb, eqb-true}
-use Rattle.command.specs.Command.{decimal, command-of}
-use Rattle.command.specs.Printing.{hex, put-into, put-end}
-use Rattle.command.specs.Line.{empty-line, fed, command-in, feed-all}
-use Rattle.command.specs.declared.Command.{Command}
-use Rattle.command.specs.declared.Command.the-variants.{Start, StartWith, Move, Back, Show, Unknown}
+use lib.ListN.{length}
+use borrow.Author.Tests.{ne-eqb}
 use Rattle.command.specs.declared.line.Line.{Line}
-use Rattle.command.proofs.Lines.{decimal-length}
-use Rattle.command.proofs.Put.{hex-length}
-use Rattle.command.proofs.Fed.{fed-read, feed-snoc}
-use Rattle.state.specs.declared.State.{State}
-use Rattle.state.specs.Association.{decode}
-use Rattle.reference.specs.Snapshot.{picture}
-use Rattle.snapshot.specs.Snapshot.{write-refusal}
-use Rattle.stepper.specs.Page.{Page, add, line, Scene, ended, heard, heard-all}
-use Rattle.stepper.specs.Piece.{text, Heard, Closed}
-use Rattle.stepper.specs.Program.{Talk, question, shown, reply, after, answers, rest, later, last}
-use Rattle.stepper.proofs.Pages.{chosen, passed-over}
-use Rattle.stepper.proofs.Shown.{room, long}
-
--- ---- no answer has more than 592 bytes before its line feed
-
-choice-length : (t : Bool) (x y : List ℕ) → length x ≤ 592 → length y ≤ 592 → length (cond t x y) ≤ 592
-choice-length true x y h k = h
-choice-length false x y h k = k
-
-shown-length : (r : State) → length (shown r) ≤ 592
-unfolding shown
-shown-length r = go (eqb (write-refusal r 296) 0) refl
-  where
-    go : (t : Bool) → eqb (write-refusal r 296) 0 ≡ t → length (cond t (hex (picture (decode r))) (decimal (write-refusal r 296))) ≤ 592
-    go true e =
-        let z = eqb-true (write-refusal r 296) 0 e in
-        omega (arith, hex-length (picture (decode r)), long r, room r z)
-    go false e = omega (arith, decimal-length (write-refusal r 296))
-
-number-length : (n : ℕ) → length (decimal n) ≤ 592
-number-length n = omega (arith, decimal-length n)
-
-pub reply-length : (c : Command) (k : Talk) → length (reply c k) ≤ 592
-unfolding reply
-reply-length (Start p t m b) k = number-length _
-reply-length (StartWith p t m b c) k = number-length _
-reply-length (Move p a o) k = choice-length (k .begun) _ question (number-length _) (omega arith)
-reply-length Back k = choice-length (k .begun) _ question (number-length _) (omega arith)
-reply-length Show k = choice-length (k .begun) _ question (shown-length _) (omega arith)
-reply-length Unknown k = omega arith
-
--- ---- where there is room, a line of output is added whole
-
-record Added (p q : Page) (x : List ℕ) : Type 0 where
-  pub size : length (q .bytes) ≡ length (p .bytes)
-  pub count : q .len ≡ p .len + length x
-  pub all : text q ≡ text p ++ x
-
-add-room : (p : Page) (x : List ℕ) → p .len + length x ≤ length (p .bytes) → Added p (add p x) x
-unfolding put-into put-end
-add-room p x h =
-    let n : length (take (p .len) (p .bytes)) ≡ p .len = length-take-le (p .len) (p .bytes) (omega arith) in
-    let m : length (take (p .len) (p .bytes) ++ x) ≡ p .len + length x = length-append (take (p .len) (p .bytes)) x ∙ ap (λ (k : ℕ). k + length x) n in
-    rw (le-leb (p .len + length x) (length (p .bytes)) h) (record {
-      size = length-append (take (p .len) (p .bytes) ++ x) (drop (p .len + length x) (p .bytes)) ∙ rw (m, length-drop) (omega arith);
-      count = refl;
-      all = take-at (take (p .len) (p .bytes) ++ x) (drop (p .len + length x) (p .bytes)) (p .len + length x) m;
-    })
-
-line-room : (p : Page) (x : List ℕ) → p .len + length x < length (p .bytes) → Added p (line p x) (x ++ (10 ∷ []))
-line-room p x h =
-    let a = add-room p x (omega arith) in
-    let b = add-room (add p x) (10 ∷ []) (omega (arith, a .count, a .size)) in
-    record {
-      size = b .size ∙ a .size;
-      count = simp length-append (omega (arith, a .count, b .count));
-      all = b .all ∙ ap (λ (l : List ℕ). l ++ (10 ∷ [])) (a .all) ∙ append-assoc (text p) x (10 ∷ []);
-    }
-
--- ---- a piece of the input
-
--- where each byte has room for an answer, the output gains exactly the answers
-pub heard-answers : (l seen : List ℕ) (x : Scene) → x .line ≡ feed-all seen empty-line → x .page .len + 593 * length l ≤ length (x .page .bytes) → Heard seen l x (heard-all l x)
-unfolding heard-all heard later rest answers feed-all
-heard-answers [] seen x e h = record { talk = refl; line = e; size = refl; all = sym (append-nil (text (x .page))) }
-heard-answers (b ∷ l) seen x e h = go (heard-answers l) (eqb b 10) refl
-  where
-    -- the scene, where the byte ends no line; the answers, where it ends one, and where not
-    longer : Scene
-    longer = record { talk = x .talk; line = fed (x .line) b; page = x .page }
-
-    here : List ℕ
-    here = reply (command-of seen) (x .talk) ++ (10 ∷ answers [] l (after (command-of seen) (x .talk)))
-
-    there : List ℕ
-    there = answers (seen ++ (b ∷ [])) l (x .talk)
-
-    go : ((s : List ℕ) (y : Scene) → y .line ≡ feed-all s empty-line → y .page .len + 593 * length l ≤ length (y .page .bytes) → Heard s l y (heard-all l y))
-        → (t : Bool) → eqb b 10 ≡ t → Heard seen (b ∷ l) x (heard-all (b ∷ l) x)
-    go more true t =
-        let c : command-in (x .line) ≡ command-of seen = ap command-in e ∙ fed-read seen in
-        let r = reply (command-in (x .line)) (x .talk) in
-        let a = line-room (x .page) r (omega (arith, reply-length (command-in (x .line)) (x .talk))) in
-        let m = more [] (ended x) refl (omega (arith, reply-length (command-in (x .line)) (x .talk), a .count, a .size, length-append r (10 ∷ []))) in
-        subst (λ (y : Scene). Heard seen (b ∷ l) x y) (ap (heard-all l) (chosen (eqb b 10) (ended x) longer (ended x) t refl)) (record {
-          talk = chosen (eqb b 10) (later [] l (after (command-of seen) (x .talk))) (later (seen ++ (b ∷ [])) l (x .talk)) _ t (m .talk ∙ ap (λ (q : Command). later [] l (after q (x .talk))) c);
-          line = m .line ∙ ap (λ (q : List ℕ). feed-all q empty-line) (chosen (eqb b 10) (rest [] l) (rest (seen ++ (b ∷ [])) l) (rest [] l) t refl);
-          size = m .size ∙ a .size;
-          all = (m .all ∙ ap (λ (q : List ℕ). q ++ answers [] l (after (command-in (x .line)) (x .talk))) (a .all)
-              ∙ append-assoc (text (x .page)) (r ++ (10 ∷ [])) (answers [] l (after (command-in (x .line)) (x .talk)))
-              ∙ ap (λ (q : List ℕ). text (x .page) ++ q) (append-assoc r (10 ∷ []) (answers [] l (after (command-in (x .line)) (x .talk))))
-              ∙ ap (λ (q : Command). text (x .page) ++ (reply q (x .talk) ++ (10 ∷ answers [] l (after q (x .talk))))) c)
-              ∙ ap (λ (q : List ℕ). text (x .page) ++ q) (chosen (eqb b 10) here there here t refl);
-        })
-    go more false t =
-        let m = more (seen ++ (b ∷ [])) longer (ap (λ (q : Line). fed q b) e ∙ sym (feed-snoc seen b empty-line)) (omega arith) in
-        subst (λ (y : Scene). Heard seen (b ∷ l) x y) (ap (heard-all l) (passed-over (eqb b 10) (ended x) longer longer t refl)) (record {
-          talk = passed-over (eqb b 10) (later [] l (after (command-of seen) (x .talk))) (later (seen ++ (b ∷ [])) l (x .talk)) _ t (m .talk);
-          line = m .line ∙ ap (λ (q : List ℕ). feed-all q empty-line) (passed-over (eqb b 10) (rest [] l) (rest (seen ++ (b ∷ [])) l) (rest (seen ++ (b ∷ [])) l) t refl);
-          size = m .size;
-          all = m .all ∙ ap (λ (q : List ℕ). text (x .page) ++ q) (passed-over (eqb b 10) here there there t refl);
-        })
+use Rattle.command.specs.model.Line.{empty-line, feed-all}
+use Rattle.command.specs.model.Reading.{command-of}
+use Rattle.session.specs.Contract.{table, started}
+use Rattle.stepper.specs.declared.shell.Shell.{Shell}
+use Rattle.stepper.specs.Program.{Context, context-of, initial, response, after, responses, rest, later, last-response, output}
+use Rattle.stepper.specs.Transcript.{Read, Reads, no-reads, one-more, Run, Unbroken, Transcript}
 
 -- ---- an input that is cut in two
 
-pub rest-cut : (l m seen : List ℕ) → rest seen (l ++ m) ≡ rest (rest seen l) m
+rest-cut : (l m seen : List ℕ) → rest seen (l ++ m) ≡ rest (rest seen l) m
 unfolding rest
 rest-cut [] m seen = refl
 rest-cut (b ∷ l) m seen = go (rest-cut l m) (eqb b 10)
@@ -139,59 +29,140 @@ rest-cut (b ∷ l) m seen = go (rest-cut l m) (eqb b 10)
     go more true = more []
     go more false = more (seen ++ (b ∷ []))
 
-pub later-cut : (l m seen : List ℕ) (k : Talk) → later seen (l ++ m) k ≡ later (rest seen l) m (later seen l k)
+later-cut : (l m seen : List ℕ) (k : Context) → later seen (l ++ m) k ≡ later (rest seen l) m (later seen l k)
 unfolding later rest
 later-cut [] m seen k = refl
 later-cut (b ∷ l) m seen k = go (later-cut l m) (eqb b 10)
   where
-    go : ((s : List ℕ) (q : Talk) → later s (l ++ m) q ≡ later (rest s l) m (later s l q)) → (t : Bool)
+    go : ((s : List ℕ) (q : Context) → later s (l ++ m) q ≡ later (rest s l) m (later s l q)) → (t : Bool)
         → cond t (later [] (l ++ m) (after (command-of seen) k)) (later (seen ++ (b ∷ [])) (l ++ m) k)
         ≡ later (cond t (rest [] l) (rest (seen ++ (b ∷ [])) l)) m (cond t (later [] l (after (command-of seen) k)) (later (seen ++ (b ∷ [])) l k))
     go more true = more [] (after (command-of seen) k)
     go more false = more (seen ++ (b ∷ [])) k
 
-pub answers-cut : (l m seen : List ℕ) (k : Talk) → answers seen (l ++ m) k ≡ answers seen l k ++ answers (rest seen l) m (later seen l k)
-unfolding answers later rest
-answers-cut [] m seen k = refl
-answers-cut (b ∷ l) m seen k = go (answers-cut l m) (eqb b 10)
+responses-cut : (l m seen : List ℕ) (k : Context) → responses seen (l ++ m) k ≡ responses seen l k ++ responses (rest seen l) m (later seen l k)
+unfolding responses later rest
+responses-cut [] m seen k = refl
+responses-cut (b ∷ l) m seen k = go (responses-cut l m) (eqb b 10)
   where
-    k′ : Talk
+    k′ : Context
     k′ = after (command-of seen) k
 
     r : List ℕ
-    r = reply (command-of seen) k
+    r = response (command-of seen) k
 
-    go : ((s : List ℕ) (q : Talk) → answers s (l ++ m) q ≡ answers s l q ++ answers (rest s l) m (later s l q)) → (t : Bool)
-        → cond t (r ++ (10 ∷ answers [] (l ++ m) k′)) (answers (seen ++ (b ∷ [])) (l ++ m) k)
-        ≡ cond t (r ++ (10 ∷ answers [] l k′)) (answers (seen ++ (b ∷ [])) l k)
-        ++ answers (cond t (rest [] l) (rest (seen ++ (b ∷ [])) l)) m (cond t (later [] l k′) (later (seen ++ (b ∷ [])) l k))
+    go : ((s : List ℕ) (q : Context) → responses s (l ++ m) q ≡ responses s l q ++ responses (rest s l) m (later s l q)) → (t : Bool)
+        → cond t (r ++ (10 ∷ responses [] (l ++ m) k′)) (responses (seen ++ (b ∷ [])) (l ++ m) k)
+        ≡ cond t (r ++ (10 ∷ responses [] l k′)) (responses (seen ++ (b ∷ [])) l k)
+        ++ responses (cond t (rest [] l) (rest (seen ++ (b ∷ [])) l)) m (cond t (later [] l k′) (later (seen ++ (b ∷ [])) l k))
     go more true =
-        ap (λ (q : List ℕ). r ++ (10 ∷ q)) (more [] k′) ∙ sym (append-assoc r (10 ∷ answers [] l k′) (answers (rest [] l) m (later [] l k′)))
+        ap (λ (q : List ℕ). r ++ (10 ∷ q)) (more [] k′) ∙ sym (append-assoc r (10 ∷ responses [] l k′) (responses (rest [] l) m (later [] l k′)))
     go more false = more (seen ++ (b ∷ [])) k
 
--- ---- the end of the input
+-- ---- reads
 
--- a line that has bytes counts some
-counts-more : (l : List ℕ) (x : Line) → x .len ≤ feed-all l x .len
-unfolding feed-all
-counts-more [] x = omega arith
-counts-more (b ∷ l) x = omega (arith, step (ltb (x .len) 64) refl, counts-more l (fed x b))
+reads-input : (first k : Context) (n : ℕ) (input texts : List ℕ) (go : Bool) → Reads first n input texts k go → (k ≡ later [] input first) × (texts ≡ responses [] input first)
+unfolding later responses
+reads-input first k n input texts go no-reads = (refl, refl)
+reads-input first k n input texts go (one-more m l w p t j j′ ok r h) =
+    let e = reads-input first j m l w true r in (
+      h .context ∙ ap (later (rest [] l) p) (e .0) ∙ sym (later-cut l p [] first),
+      ap₂ _++_ (e .1) (h .all ∙ ap (responses (rest [] l) p) (e .0)) ∙ sym (responses-cut l p [] first),
+    )
+
+-- what the program holds between reads, k and the line x, is what the reads so far leave; go: there is to be another, left: how many more there may be
+pub record SoFar (first k : Context) (x : Line) (go : Bool) (left : ℕ) : Type 0 where
+  pub count : ℕ
+  pub input : List ℕ
+  pub texts : List ℕ
+  pub reads : Reads first count input texts k go
+  pub line : x ≡ feed-all (rest [] input) empty-line
+  pub counted : count + left ≡ 18446744073709551615
+
+pub nothing-read : (j : List ℕ) (d : Shell) (x : Line) → d ≡ record { begun = false; session = started (table 0 0 0 0 0) .session; len = 0 } → x ≡ empty-line
+    → SoFar (initial j) (context-of d j) x true 18446744073709551615
+unfolding rest feed-all
+nothing-read j d x e h =
+    record {
+      count = 0;
+      input = [];
+      texts = [];
+      reads = subst (λ (k : Context). Reads (initial j) 0 [] [] k true) (sym (ap (λ (b : Shell). context-of b j) e)) no-reads;
+      line = h;
+      counted = refl;
+    }
+
+pub read-more : (first k k′ : Context) (x x′ : Line) (p t : List ℕ) (go ok : Bool) (got left : ℕ) → SoFar first k x go left → go ≡ true → 0 < left → got ≡ length p
+    → ((seen : List ℕ) → x ≡ feed-all seen empty-line → (x′ ≡ feed-all (rest seen p) empty-line) × Read seen p t k k′) → SoFar first k′ x′ (ltb 0 got && ok) (left - 1)
+read-more first k k′ x x′ p t go ok got left s e z g f =
+    let h = f (rest [] (s .input)) (s .line) in
+    let r = subst (λ (b : Bool). Reads first (s .count) (s .input) (s .texts) k b) e (s .reads) in
+    record {
+      count = s .count + 1;
+      input = s .input ++ p;
+      texts = s .texts ++ t;
+      reads = subst (λ (m : ℕ). Reads first (s .count + 1) (s .input ++ p) (s .texts ++ t) k′ (ltb 0 m && ok)) (sym g) (one-more (s .count) (s .input) (s .texts) p t k k′ ok r (h .1));
+      line = h .0 ∙ ap (λ (q : List ℕ). feed-all q empty-line) (sym (rest-cut (s .input) p []));
+      counted = omega (arith, s .counted);
+    }
+
+-- each side of a choice
+pub on-each : {A B C D : Type 0} → (A → C) → (B → D) → A ⊎ B → C ⊎ D
+on-each f g (inl a) = inl (f a)
+on-each f g (inr b) = inr (g b)
+
+pub run-ended : (first k : Context) (x : Line) (t : List ℕ) (go : Bool) (left : ℕ) → SoFar first k x go left → (go ≡ false) ⊎ (left ≤ 0)
+    → ((seen : List ℕ) → x ≡ feed-all seen empty-line → t ≡ last-response seen k) → Run first t
+unfolding output
+run-ended first k x t go left s e f =
+    let h = reads-input first k (s .count) (s .input) (s .texts) go (s .reads) in
+    record {
+      count = s .count;
+      input = s .input;
+      texts = s .texts;
+      context = k;
+      go = go;
+      reads = s .reads;
+      stop = stops e;
+      all = ap₂ _++_ (h .1) (f (rest [] (s .input)) (s .line) ∙ ap (last-response (rest [] (s .input))) (h .0));
+    }
   where
-    step : (t : Bool) → ltb (x .len) 64 ≡ t → x .len ≤ fed x b .len
-    step true e = rw e (omega arith)
-    step false e = rw e (omega arith)
+    stops : (go ≡ false) ⊎ (left ≤ 0) → (go ≡ false) ⊎ (s .count ≡ 18446744073709551615)
+    stops (inl q) = inl q
+    stops (inr q) = inr (omega (arith, s .counted))
 
-pub none-left : (seen : List ℕ) (x y : Scene) → x .line ≡ feed-all seen empty-line → (0 < x .line .len → ⊥) → y ≡ x → Closed seen x y
-unfolding last feed-all
-none-left [] x y e z q = record { all = rw q (sym (append-nil (text (x .page)))) }
-none-left (b ∷ l) x y e z q =
-    let h : 1 ≤ feed-all l (fed empty-line b) .len = counts-more l (fed empty-line b) in
-    absurd (z (rw e h))
+-- ---- lines
 
-pub last-answered : (seen : List ℕ) (x y : Scene) → x .line ≡ feed-all seen empty-line → 0 < x .line .len → x .page .len + 593 ≤ length (x .page .bytes) → y ≡ ended x → Closed seen x y
-unfolding last feed-all
-last-answered [] x y e z h q = let w : 0 < empty-line .len = rw e at z in absurd (omega arith)
-last-answered (b ∷ l) x y e z h q =
-    let c : command-in (x .line) ≡ command-of (b ∷ l) = ap command-in e ∙ fed-read (b ∷ l) in
-    let a = line-room (x .page) (reply (command-in (x .line)) (x .talk)) (omega (arith, reply-length (command-in (x .line)) (x .talk))) in
-    record { all = rw q (a .all ∙ ap (λ (k : Command). text (x .page) ++ (reply k (x .talk) ++ (10 ∷ []))) c) }
+unbroken-rest : (l seen : List ℕ) → Unbroken l → rest seen l ≡ seen ++ l
+unfolding rest
+unbroken-rest [] seen h = sym (append-nil seen)
+unbroken-rest (b ∷ l) seen h = rw (ne-eqb b 10 (h .0)) (unbroken-rest l (seen ++ (b ∷ [])) (h .1) ∙ append-assoc seen (b ∷ []) l)
+
+unbroken-later : (l seen : List ℕ) (k : Context) → Unbroken l → later seen l k ≡ k
+unfolding later
+unbroken-later [] seen k h = refl
+unbroken-later (b ∷ l) seen k h = rw (ne-eqb b 10 (h .0)) (unbroken-later l (seen ++ (b ∷ [])) k (h .1))
+
+unbroken-responses : (l seen : List ℕ) (k : Context) → Unbroken l → responses seen l k ≡ []
+unfolding responses
+unbroken-responses [] seen k h = refl
+unbroken-responses (b ∷ l) seen k h = rw (ne-eqb b 10 (h .0)) (unbroken-responses l (seen ++ (b ∷ [])) k (h .1))
+
+first-line : (l m : List ℕ) (k : Context) → Unbroken l → output (l ++ (10 ∷ m)) k ≡ response (command-of l) k ++ (10 ∷ output m (after (command-of l) k))
+unfolding output responses rest later
+first-line l m k h =
+    let c = rest-cut l (10 ∷ m) [] in
+    let d = later-cut l (10 ∷ m) [] k ∙ ap₂ (λ (s : List ℕ) (q : Context). later s (10 ∷ m) q) (unbroken-rest l [] h) (unbroken-later l [] k h) in
+    let e = responses-cut l (10 ∷ m) [] k in
+    rw (e, unbroken-responses l [] k h, unbroken-rest l [] h, unbroken-later l [] k h, c, d) (append-assoc (response (command-of l) k) (10 ∷ responses [] m (after (command-of l) k)) (last-response (rest [] m) (later [] m (after (command-of l) k))))
+
+last-line : (b : ℕ) (l : List ℕ) (k : Context) → Unbroken (b ∷ l) → output (b ∷ l) k ≡ response (command-of (b ∷ l)) k ++ (10 ∷ [])
+unfolding output last-response
+last-line b l k h = rw (unbroken-responses (b ∷ l) [] k h, unbroken-rest (b ∷ l) [] h, unbroken-later (b ∷ l) [] k h)
+
+no-line : (k : Context) → output [] k ≡ []
+unfolding output responses rest later last-response
+no-line k = refl
+
+pub transcript-holds : Transcript
+transcript-holds = record { line = first-line; last = last-line; none = no-line; cut = reads-input }

@@ -1,4 +1,4 @@
 -- What the program writes for what it reads.
-pub mod Page
-pub mod Piece
 pub mod Program
+pub mod Transcript
+pub mod model

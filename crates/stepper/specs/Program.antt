@@ -1,70 +1,79 @@
--- "The program", document 01: what the program writes for what it reads.
--- feed_all and closed of src/main.rt state that the output gains exactly `answers` and `last` (Piece); proofs/Transcript shows that an input may be cut anywhere.
+-- "The program", document 01: what the program writes for what it reads. A line's command is the one that Grammar of command/specs says (`command-of`).
+-- Transcript.antt tells it line by line and read by read. A last line without a line feed counts; a read or a write that fails ends the input.
 use Prim.Native.Nat.{ℕ}
-use mathlib.Core.Bool.{Bool, true, cond}
+use mathlib.Core.Bool.{Bool, true, false, cond}
 use mathlib.Core.List.{List, [], _∷_, _++_}
 use lib.Dec.{eqb}
-use Rattle.command.specs.Command.{decimal, command-of}
-use Rattle.command.specs.Printing.{hex}
+use Rattle.command.specs.Printing.{decimal, hex}
+use Rattle.command.specs.model.Reading.{command-of}
 use Rattle.command.specs.declared.Command.{Command}
 use Rattle.command.specs.declared.Command.the-variants.{Start, StartWith, Move, Back, Show, Unknown}
 use Rattle.state.specs.declared.Session.{Session}
 use Rattle.state.specs.declared.State.{State}
 use Rattle.state.specs.Association.{decode}
-use Rattle.reference.specs.Snapshot.{picture}
-use Rattle.snapshot.specs.Snapshot.{write-refusal}
-use Rattle.session.specs.declared.Answer.{Answer}
+use Rattle.reference.specs.Picture.{picture}
 use Rattle.reference.specs.Step.{move-of}
+use Rattle.picture.specs.Picture.{write-refusal}
+use Rattle.session.specs.declared.Answer.{Answer}
 use Rattle.session.specs.Contract.{table, started, moved, journal-after, undone}
+use Rattle.stepper.specs.declared.shell.Shell.{Shell}
 
 -- begun: a start has been accepted; its session, and the journal
-pub record Talk : Type 0 where
+pub record Context : Type 0 where
   pub begun : Bool
   pub session : Session
   pub journal : List ℕ
 
+-- what the program holds, with the journal
+abbrev pub context-of : Shell → List ℕ → Context
+context-of d j = record { begun = d .begun; session = d .session; journal = j }
+
+-- before the first line
+abbrev pub initial : List ℕ → Context
+initial j = record { begun = false; session = started (table 0 0 0 0 0) .session; journal = j }
+
 -- `?`
-abbrev pub question : List ℕ
-question = 63 ∷ []
+abbrev pub question-mark : List ℕ
+question-mark = 63 ∷ []
 
 -- the picture; were a record refused, its refusal. No picture is longer than 296 bytes.
-unfoldable pub shown : State → List ℕ
-shown r = cond (eqb (write-refusal r 296) 0) (hex (picture (decode r))) (decimal (write-refusal r 296))
+unfoldable pub picture-text : State → List ℕ
+picture-text r = cond (eqb (write-refusal r 296) 0) (hex (picture (decode r))) (decimal (write-refusal r 296))
 
 -- what a line prints: 0 or the refusal, the picture, or `?`. A start's fifth number, left out, is 0.
-unfoldable pub reply : Command → Talk → List ℕ
-reply (Start p t m b) k = decimal (started (table p t m b 0) .refusal)
-reply (StartWith p t m b c) k = decimal (started (table p t m b c) .refusal)
-reply (Move p a o) k = cond (k .begun) (decimal (moved (k .session) (k .journal) (move-of p a o) .refusal)) question
-reply Back k = cond (k .begun) (decimal (undone (k .session) (k .journal) .refusal)) question
-reply Show k = cond (k .begun) (shown (k .session .state)) question
-reply Unknown k = question
+unfoldable pub response : Command → Context → List ℕ
+response (Start p t m b) k = decimal (started (table p t m b 0) .refusal)
+response (StartWith p t m b c) k = decimal (started (table p t m b c) .refusal)
+response (Move p a o) k = cond (k .begun) (decimal (moved (k .session) (k .journal) (move-of p a o) .refusal)) question-mark
+response Back k = cond (k .begun) (decimal (undone (k .session) (k .journal) .refusal)) question-mark
+response Show k = cond (k .begun) (picture-text (k .session .state)) question-mark
+response Unknown k = question-mark
 
 -- a refused start keeps the old session
-abbrev pub begun-by : Answer → Talk → Talk
+abbrev pub begun-by : Answer → Context → Context
 begun-by a k = cond (eqb (a .refusal) 0) (record { begun = true; session = a .session; journal = k .journal }) k
 
 -- a move or a step back leaves the record that it answers
-abbrev pub talk-of : Bool → Answer → List ℕ → Talk
-talk-of begun a j = record { begun = begun; session = a .session; journal = j }
+abbrev pub answered : Bool → Answer → List ℕ → Context
+answered begun a j = record { begun = begun; session = a .session; journal = j }
 
 -- what a line leaves; a refused move or step back answers the record that it was handed
-unfoldable pub after : Command → Talk → Talk
+unfoldable pub after : Command → Context → Context
 after (Start p t m b) k = begun-by (started (table p t m b 0)) k
 after (StartWith p t m b c) k = begun-by (started (table p t m b c)) k
 after (Move p a o) k =
-    cond (k .begun) (talk-of (k .begun) (moved (k .session) (k .journal) (move-of p a o)) (journal-after (k .session) (k .journal) (move-of p a o))) k
-after Back k = cond (k .begun) (talk-of (k .begun) (undone (k .session) (k .journal)) (k .journal)) k
+    cond (k .begun) (answered (k .begun) (moved (k .session) (k .journal) (move-of p a o)) (journal-after (k .session) (k .journal) (move-of p a o))) k
+after Back k = cond (k .begun) (answered (k .begun) (undone (k .session) (k .journal)) (k .journal)) k
 after Show k = k
 after Unknown k = k
 
 -- ---- an input, byte by byte; `seen`: the bytes of the line so far; 10 ends a line
 
--- the answers to the lines that end in it, each with a line feed
-unfoldable pub answers : List ℕ → List ℕ → Talk → List ℕ
-answers seen [] k = []
-answers seen (b ∷ l) k =
-    cond (eqb b 10) (reply (command-of seen) k ++ (10 ∷ answers [] l (after (command-of seen) k))) (answers (seen ++ (b ∷ [])) l k)
+-- the responses to the lines that end in it, each with a line feed
+unfoldable pub responses : List ℕ → List ℕ → Context → List ℕ
+responses seen [] k = []
+responses seen (b ∷ l) k =
+    cond (eqb b 10) (response (command-of seen) k ++ (10 ∷ responses [] l (after (command-of seen) k))) (responses (seen ++ (b ∷ [])) l k)
 
 -- what is left of a line at its end
 unfoldable pub rest : List ℕ → List ℕ → List ℕ
@@ -72,15 +81,15 @@ rest seen [] = seen
 rest seen (b ∷ l) = cond (eqb b 10) (rest [] l) (rest (seen ++ (b ∷ [])) l)
 
 -- what the lines that end in it leave
-unfoldable pub later : List ℕ → List ℕ → Talk → Talk
+unfoldable pub later : List ℕ → List ℕ → Context → Context
 later seen [] k = k
 later seen (b ∷ l) k = cond (eqb b 10) (later [] l (after (command-of seen) k)) (later (seen ++ (b ∷ [])) l k)
 
--- the answer to a last line without a line feed
-unfoldable pub last : List ℕ → Talk → List ℕ
-last [] k = []
-last (b ∷ l) k = reply (command-of (b ∷ l)) k ++ (10 ∷ [])
+-- the response to a last line without a line feed
+unfoldable pub last-response : List ℕ → Context → List ℕ
+last-response [] k = []
+last-response (b ∷ l) k = response (command-of (b ∷ l)) k ++ (10 ∷ [])
 
 -- the output for a whole input
-unfoldable pub output : List ℕ → Talk → List ℕ
-output l k = answers [] l k ++ last (rest [] l) (later [] l k)
+unfoldable pub output : List ℕ → Context → List ℕ
+output l k = responses [] l k ++ last-response (rest [] l) (later [] l k)

@@ -1,146 +1,148 @@
-// Reads lines from standard input to its end and answers each with a line.
-mod desk;
+// Reads lines from standard input to its end and responds to each with a line.
+mod shell;
 
 ghost use mathlib.Core.Path.{_≡_};
 ghost use mathlib.Core.List.{List};
 ghost use Prim.Native.Nat.{ℕ, _+_, _*_, _≤_};
-ghost use lib.ListN.{length};
-ghost use Rattle.command.specs.Line.{empty-line, feed-all};
-ghost use Rattle.stepper.specs.Page.{scene, ended as scene-ended, heard, heard-all};
-ghost use Rattle.stepper.specs.Piece.{Heard, Closed};
+ghost use lib.ListN.{length, take};
+ghost use Rattle.command.specs.model.Line.{empty-line, feed-all};
+ghost use Rattle.stepper.specs.Program.{context-of, initial, rest, last-response};
+ghost use Rattle.stepper.specs.Transcript.{Read, Run};
+ghost use Rattle.stepper.specs.model.Buffer.{program-state, line-ended, consumed, consumed-all};
+ghost use Rattle.stepper.specs.model.Piece.{AfterPiece, AfterEnd};
 use command::line::Line;
-use desk::Desk;
 use libc::STDIN_FILENO;
 use libc::STDOUT_FILENO;
+use shell::Shell;
 
-// The desk, and the line that has come so far.
-pub struct Sitting {
-    pub desk: Desk,
+// The shell, and the line that has come so far.
+pub struct Progress {
+    pub shell: Shell,
     pub line: Line,
 }
 
-pub struct Turn {
-    pub go: bool,
-    pub sitting: Sitting,
+// got: the bytes that a read put into its buffer; written: the bytes of the output that were then handed to write; ok: they were written.
+pub struct ReadResult {
+    pub got: usize,
+    pub written: usize,
+    pub ok: bool,
+    pub progress: Progress,
 }
 
-// A line has ended: it is answered, and the next one begins.
-fn ended(s: Sitting, journal: &mut [u8], out: &mut [u8]) -> Sitting
-    ensures { λ r. ⌜ scene (r .desk) (r .line) (now (journal .exit)) (now (out .exit)) ≡ scene-ended (scene (s .desk) (s .line) (now (journal .entry)) (now (out .entry))) ⌝ }
+// A line has ended: its response is added, and the next one begins.
+fn end_line(s: Progress, journal: &mut [u8], out: &mut [u8]) -> Progress
+    ensures { λ r. ⌜ program-state (r .shell) (r .line) (now (journal .exit)) (now (out .exit)) ≡ line-ended (program-state (s .shell) (s .line) (now (journal .entry)) (now (out .entry))) ⌝ }
 {
     let line = s.line;
-    let desk = s.desk;
-    let after = desk::answer(desk, journal, line, out);
+    let shell = s.shell;
+    let after = shell::respond(shell, journal, line, out);
     let fresh = Line::empty();
-    Sitting {
-        desk: after,
+    Progress {
+        shell: after,
         line: fresh,
     }
 }
 
-fn feed(s: Sitting, b: u8, journal: &mut [u8], out: &mut [u8]) -> Sitting
-    ensures { λ r. ⌜ scene (r .desk) (r .line) (now (journal .exit)) (now (out .exit)) ≡ heard b (scene (s .desk) (s .line) (now (journal .entry)) (now (out .entry))) ⌝ }
+fn feed(s: Progress, b: u8, journal: &mut [u8], out: &mut [u8]) -> Progress
+    ensures { λ r. ⌜ program-state (r .shell) (r .line) (now (journal .exit)) (now (out .exit)) ≡ consumed b (program-state (s .shell) (s .line) (now (journal .entry)) (now (out .entry))) ⌝ }
 {
     if b == b'\n' {
-        return ended(s, journal, out);
+        return end_line(s, journal, out);
     }
     let line = s.line;
-    let desk = s.desk;
+    let shell = s.shell;
     let longer = line.fed(b);
-    Sitting { desk, line: longer }
+    Progress {
+        shell,
+        line: longer,
+    }
 }
 
-// A piece of the input: with room for an answer to each byte, the output gains exactly the answers to the lines that end in it.
-fn feed_all(s: Sitting, bytes: &[u8], journal: &mut [u8], out: &mut [u8]) -> Sitting
-    requires { ⌜ s .desk .len + 593 * length (now bytes) ≤ length (now out) ⌝ }
-    ensures { λ r. ⌜ scene (r .desk) (r .line) (now (journal .exit)) (now (out .exit)) ≡ heard-all (now (bytes .entry)) (scene (s .desk) (s .line) (now (journal .entry)) (now (out .entry))) ⌝ }
-    ensures { λ r. ⌜ ((seen : List ℕ) → s .line ≡ feed-all seen empty-line → Heard seen (now (bytes .entry)) (scene (s .desk) (s .line) (now (journal .entry)) (now (out .entry))) (scene (r .desk) (r .line) (now (journal .exit)) (now (out .exit)))) ⌝ }
+// A piece of the input: with room for a response to each byte, the output gains exactly the responses to the lines that end in it.
+fn feed_all(s: Progress, bytes: &[u8], journal: &mut [u8], out: &mut [u8]) -> Progress
+    requires { ⌜ s .shell .len + 593 * length (now bytes) ≤ length (now out) ⌝ }
+    ensures { λ r. ⌜ program-state (r .shell) (r .line) (now (journal .exit)) (now (out .exit)) ≡ consumed-all (now (bytes .entry)) (program-state (s .shell) (s .line) (now (journal .entry)) (now (out .entry))) ⌝ }
+    ensures { λ r. ⌜ ((seen : List ℕ) → s .line ≡ feed-all seen empty-line → AfterPiece seen (now (bytes .entry)) (program-state (s .shell) (s .line) (now (journal .entry)) (now (out .entry))) (program-state (r .shell) (r .line) (now (journal .exit)) (now (out .exit)))) ⌝ }
+    ensures { λ r. ⌜ r .shell .len ≤ length (now (out .exit)) ⌝ }
 {
-    let mut sitting = s;
+    let mut progress = s;
     for i in 0..bytes.len() {
-        sitting = feed(sitting, bytes[i], journal, out);
+        progress = feed(progress, bytes[i], journal, out);
     }
-    sitting
+    progress
 }
 
-// Writes what has gathered in the output, which is then empty.
-fn flushed(desk: Desk, out: &[u8]) -> Desk
-    ensures { λ r. ⌜ r ≡ record { begun = desk .begun; session = desk .session; len = 0 } ⌝ }
+// One read, and the lines that it ends: their responses are handed to write before the next read. A failed read gives no bytes.
+fn read_some(s: Progress, journal: &mut [u8], chunk: &mut [u8], out: &mut [u8]) -> ReadResult
+    requires { ⌜ (s .shell .len ≡ 0) × (593 * length (now chunk) ≤ length (now out)) ⌝ }
+    ensures { λ r. ⌜ (r .progress .shell .len ≡ 0) × (r .got ≡ length (take (r .got) (now (chunk .exit)))) ⌝ }
+    ensures { λ r. ⌜ ((seen : List ℕ) → s .line ≡ feed-all seen empty-line → (r .progress .line ≡ feed-all (rest seen (take (r .got) (now (chunk .exit)))) empty-line) × Read seen (take (r .got) (now (chunk .exit))) (take (r .written) (now (out .exit))) (context-of (s .shell) (now (journal .entry))) (context-of (r .progress .shell) (now (journal .exit)))) ⌝ }
 {
-    let n = desk.len;
-    if n <= out.len() {
-        io::write_all(STDOUT_FILENO, &out[..n]);
-    }
-    let mut next = desk;
-    next.len = 0;
-    next
-}
-
-// One read, and the lines that it ends: their answers are written before the next read.
-fn read_some(s: Sitting, journal: &mut [u8], out: &mut [u8]) -> Turn
-    requires { ⌜ (s .desk .len ≡ 0) × (length (now out) ≡ 304000) ⌝ }
-    ensures { λ r. ⌜ r .sitting .desk .len ≡ 0 ⌝ }
-{
-    let mut chunk = [0u8; 512];
-    let got = libc::read(STDIN_FILENO, &mut chunk);
-    if got <= 0 {
-        return Turn {
-            go: false,
-            sitting: s,
-        };
-    }
-    let n = io::count(got, &chunk);
-    let fed = feed_all(s, &chunk[..n], journal, out);
+    let answer = libc::read(STDIN_FILENO, chunk);
+    let got = io::count(answer, chunk);
+    let fed = feed_all(s, &chunk[..got], journal, out);
     let line = fed.line;
-    let gathered = fed.desk;
-    let desk = flushed(gathered, out);
-    Turn {
-        go: true,
-        sitting: Sitting { desk, line },
+    let mut shell = fed.shell;
+    let written = shell.len;
+    let ok = io::write_all(STDOUT_FILENO, &out[..written]);
+    shell.len = 0;
+    ReadResult {
+        got,
+        written,
+        ok,
+        progress: Progress { shell, line },
     }
 }
 
 // A last line without a line feed is a line.
-fn closed(s: Sitting, journal: &mut [u8], out: &mut [u8]) -> Sitting
-    requires { ⌜ s .desk .len + 593 ≤ length (now out) ⌝ }
-    ensures { λ r. ⌜ ((seen : List ℕ) → s .line ≡ feed-all seen empty-line → Closed seen (scene (s .desk) (s .line) (now (journal .entry)) (now (out .entry))) (scene (r .desk) (r .line) (now (journal .exit)) (now (out .exit)))) ⌝ }
+fn end_input(s: Progress, journal: &mut [u8], out: &mut [u8]) -> Progress
+    requires { ⌜ s .shell .len + 593 ≤ length (now out) ⌝ }
+    ensures { λ r. ⌜ ((seen : List ℕ) → s .line ≡ feed-all seen empty-line → AfterEnd seen (program-state (s .shell) (s .line) (now (journal .entry)) (now (out .entry))) (program-state (r .shell) (r .line) (now (journal .exit)) (now (out .exit)))) ⌝ }
+    ensures { λ r. ⌜ r .shell .len ≤ length (now (out .exit)) ⌝ }
 {
     let line = s.line;
     if 0 < line.len {
-        return ended(s, journal, out);
+        return end_line(s, journal, out);
     }
     s
 }
 
-fn finish(s: Sitting, journal: &mut [u8], out: &mut [u8])
-    requires { ⌜ (s .desk .len ≡ 0) × (length (now out) ≡ 304000) ⌝ }
+// The end of the input: how many bytes of the output are handed to write.
+fn finish(s: Progress, journal: &mut [u8], out: &mut [u8]) -> usize
+    requires { ⌜ (s .shell .len ≡ 0) × (593 ≤ length (now out)) ⌝ }
+    ensures { λ r. ⌜ ((seen : List ℕ) → s .line ≡ feed-all seen empty-line → take r (now (out .exit)) ≡ last-response seen (context-of (s .shell) (now (journal .entry)))) ⌝ }
 {
-    let last = closed(s, journal, out);
-    let desk = last.desk;
-    flushed(desk, out);
+    let last = end_input(s, journal, out);
+    let shell = last.shell;
+    let written = shell.len;
+    io::write_all(STDOUT_FILENO, &out[..written]);
+    written
 }
 
+// The whole run: what is handed to write, read after read and in the end, is the output for what the reads put into `chunk`.
 // A proved loop has to end, so the reads are counted down from a number that no run uses up.
-fn sit(journal: &mut [u8], out: &mut [u8])
-    requires { ⌜ length (now out) ≡ 304000 ⌝ }
+fn read_all(journal: &mut [u8], chunk: &mut [u8], out: &mut [u8]) -> usize
+    requires { ⌜ (593 ≤ length (now out)) × (593 * length (now chunk) ≤ length (now out)) ⌝ }
+    ensures { λ r. ⌜ Run (initial (now (journal .entry))) (take r (now (out .exit))) ⌝ }
 {
-    let desk = desk::new();
+    let shell = shell::new();
     let line = Line::empty();
-    let mut s = Sitting { desk, line };
-    let mut turns = u64::MAX;
+    let mut s = Progress { shell, line };
+    let mut left = u64::MAX;
     let mut go = true;
-    while turns > 0 && go {
-        let t = read_some(s, journal, out);
-        s = t.sitting;
-        go = t.go;
-        turns -= 1;
+    while left > 0 && go {
+        let r = read_some(s, journal, chunk, out);
+        s = r.progress;
+        go = (0 < r.got) & r.ok;
+        left -= 1;
     }
-    finish(s, journal, out);
+    finish(s, journal, out)
 }
 
-// The output has room for 512 answers, each of which has at most 593 bytes.
+// The output has room for 512 responses, each of which has at most 593 bytes.
 fn main() {
     let mut journal = [0u8; 12000];
+    let mut chunk = [0u8; 512];
     let mut out = [0u8; 304000];
-    sit(&mut journal, &mut out);
+    read_all(&mut journal, &mut chunk, &mut out);
 }

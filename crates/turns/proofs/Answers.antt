@@ -20,10 +20,10 @@ use Rattle.reference.specs.Start.{Config, config-cause}
 use Rattle.reference.specs.Step.{Move, move-of}
 use Rattle.reference.specs.Script.{scripts-ok, scripts-cause}
 use Rattle.reference.specs.Session.{lacks-room}
-use Rattle.session.specs.Contract.{shown, config-of, started, or-later, lent-refusal, move-refusal, moved, journal-after, replayed, progress-in, tested}
+use Rattle.session.specs.Contract.{shown, config-of, started, or-later, lent-refusal, move-refusal, moved, journal-after, matches, progress-in, tested}
 use Rattle.session.proofs.Holding.{or-passed}
 use Rattle.turns.specs.Contract.{scripted, turn-made, turn-refusal, turned, turn-journal, class-refusal, classed, class-journal, answers-after, pictures-after}
-use Rattle.turns.specs.Model.{Given}
+use Rattle.turns.specs.model.Turn.{Given}
 use Rattle.turns.proofs.Turned.{its-own}
 
 -- ---- scripted start
@@ -135,14 +135,14 @@ module _ (r : Session) (j x ps answers pictures : List ℕ) where
   pub record ClassKept (n : ℕ) : Type 0 where
     pub answer : record { refusal = n; session = r } ≡ classed r j x ps answers pictures
     pub journal : j ≡ class-journal r j x ps answers pictures
-    pub told : answers ≡ answers-after r j x ps answers pictures
-    pub shown : pictures ≡ pictures-after r j x ps answers pictures
+    pub numbers : answers ≡ answers-after r j x ps answers pictures
+    pub pictured : pictures ≡ pictures-after r j x ps answers pictures
 
   class-kept : (n : ℕ) → n ≡ class-refusal r j x ps answers pictures → (n ≡ 0 → ⊥) → ClassKept n
   unfolding classed class-journal answers-after pictures-after
   class-kept n e h =
       let z = ne-eqb n 0 h in
-      record { answer = rw (← e, z); journal = rw (← e, z); told = rw (← e, z); shown = rw (← e, z) }
+      record { answer = rw (← e, z); journal = rw (← e, z); numbers = rw (← e, z); pictured = rw (← e, z) }
 
   abbrev full : Bool
   full = lacks-room (config-of r) (length ps) answers pictures
@@ -168,28 +168,28 @@ module _ (r : Session) (j x ps answers pictures : List ℕ) where
         by true z = absurd (omega arith)
         by false z = refl
 
-    abbrev strange : ℕ
-    strange = refuse (not (replayed r j)) 16 0
+    abbrev mismatched : ℕ
+    mismatched = refuse (not (matches r j)) 16 0
 
-    number-is : class-refusal r j x ps answers pictures ≡ refuse (not (replayed r j)) 16 (scripts-cause (r .state .t) x)
+    number-is : class-refusal r j x ps answers pictures ≡ refuse (not (matches r j)) 16 (scripts-cause (r .state .t) x)
     unfolding class-refusal
     number-is = rw (free, room)
 
-    test-is : tested r j .refusal ≡ strange
+    test-is : tested r j .refusal ≡ mismatched
     unfolding tested
     test-is = rw free
 
     -- 16
     pub class-strange : (n : ℕ) → n ≡ tested r j .refusal → (n ≡ 0 → ⊥) → ClassKept n
-    class-strange n e h = class-kept n (e ∙ test-is ∙ by (not (replayed r j)) _ (λ z. h (e ∙ test-is ∙ z)) ∙ sym number-is) h
+    class-strange n e h = class-kept n (e ∙ test-is ∙ by (not (matches r j)) _ (λ z. h (e ∙ test-is ∙ z)) ∙ sym number-is) h
       where
         by : (b : Bool) (k : ℕ) → (refuse b 16 0 ≡ 0 → ⊥) → refuse b 16 0 ≡ refuse b 16 k
         by true k z = refl
         by false k z = absurd (z refl)
 
     module _ (same : tested r j .refusal ≡ 0) where
-      replays-true : not (replayed r j) ≡ false
-      replays-true = by (not (replayed r j)) (sym test-is ∙ same)
+      replays-true : not (matches r j) ≡ false
+      replays-true = by (not (matches r j)) (sym test-is ∙ same)
         where
           by : (b : Bool) → refuse b 16 0 ≡ 0 → b ≡ false
           by true z = absurd (omega arith)
@@ -213,4 +213,4 @@ pub class-given : (r : Session) (j x ps answers pictures : List ℕ) → class-r
     (answers′ ≡ answers-after r j x ps answers pictures) × (pictures′ ≡ pictures-after r j x ps answers pictures)
 unfolding classed class-journal answers-after pictures-after
 class-given r j x ps answers pictures none s j′ answers′ pictures′ g =
-    (rw (none, g .state), rw (none, g .journal), rw (none, g .told), rw (none, g .shown))
+    (rw (none, g .state), rw (none, g .journal), rw (none, g .numbers), rw (none, g .pictured))

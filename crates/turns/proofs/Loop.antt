@@ -15,16 +15,16 @@ use Rattle.state.specs.declared.State.{State as Record}
 use Rattle.state.specs.declared.Session.{Session}
 use Rattle.state.specs.Association.{encode, decode}
 use Rattle.state.specs.Rules.{session-ok}
-use Rattle.state.proofs.Sized.{Sized}
+use Rattle.state.specs.Record.{Sized}
 use Rattle.shown.proofs.Encode.{encode-decode}
 use Rattle.shown.proofs.Unique.{encode-sized}
-use Rattle.snapshot.specs.Model.{over, record-bytes}
-use Rattle.snapshot.proofs.Written.{over-written}
+use Rattle.picture.specs.model.Parts.{over, record-bytes}
+use Rattle.picture.proofs.Written.{over-written}
 use Rattle.reference.specs.Lists.{choose, with-front, tabulate}
 use Rattle.reference.specs.Start.{Config, config-cause, start}
 use Rattle.reference.specs.Step.{Move, move-of}
 use Rattle.reference.specs.Cause.{cause, accepted}
-use Rattle.reference.specs.Snapshot.{picture}
+use Rattle.reference.specs.Picture.{picture}
 use Rattle.reference.specs.Script.{turned, turn-cause, turn-after, class-moves, class-answers, class-pictures}
 use Rattle.reference.specs.Session.{bytes, lacks-room, picture-size, replays, state-of}
 use Rattle.reference.proofs.Tests.{passed, both-left, both-right}
@@ -33,7 +33,7 @@ use Rattle.reference.proofs.Laws.{applied-is}
 use Rattle.reference.proofs.Legal.{legal}
 use Rattle.reference.proofs.Moves.{accepted-length}
 use Rattle.reference.proofs.Script.{accepted-turn, accepted-class, moves-more, answers-more, pictures-more, answers-length}
-use Rattle.session.specs.Contract.{shown, config-of, lent-refusal, standing, replayed, progress-in, written-at}
+use Rattle.session.specs.Contract.{config-of, lent-refusal, standing, matches, progress-in, written-at}
 use Rattle.session.proofs.Answers.{lent-passed}
 use Rattle.session.proofs.Undone.{config-right, applied-most, state-right}
 use Rattle.session.proofs.Shown.{picture-long, pictured}
@@ -41,9 +41,9 @@ use Rattle.session.proofs.Shown as reached
 use Rattle.session.proofs.Counted.{calls-of}
 use Rattle.session.proofs.Standing.{length-bytes, bytes-snoc, sets-written}
 use Rattle.session.proofs.Holding.{Agree, or-passed, whole-is}
-use Rattle.turns.specs.declared.taken.Taken.{Taken}
+use Rattle.turns.specs.declared.made.Made.{Made}
 use Rattle.turns.specs.Contract.{class-refusal}
-use Rattle.turns.specs.Model.{taken-of, Given}
+use Rattle.turns.specs.model.Turn.{turn-result, Given}
 use Rattle.reference.proofs.Fronts.{with-front-same, with-front-length, with-front-more, with-front-set, with-front-part}
 use Rattle.turns.proofs.Turned.{Turn, turn-taken}
 
@@ -84,14 +84,14 @@ module _ (r : Session) (size : Sized (r .state)) (j x ps a b : List ℕ) (none :
     pub enough : 12000 ≤ length j
     pub record-ok : session-ok r ≡ true
     pub room : (length ps ≤ length a) × (length ps * picture-size c ≤ length b)
-    pub replays-it : replayed r j ≡ true
+    pub replays-it : matches r j ≡ true
 
   pub fine : Fine
   unfolding class-refusal
   fine =
       let first = or-passed (lent-refusal r (length j)) _ none in
       let second = passed (lacks-room c (length ps) a b) _ _ (first .1) in
-      let third = passed (not (replayed r j)) _ _ (second .1) in
+      let third = passed (not (matches r j)) _ _ (second .1) in
       let lent = lent-passed r (length j) (first .0) in
       let both = neither (ltb (length a) (length ps)) (ltb (length b) (length ps * picture-size c)) (second .0) in
       record {
@@ -105,7 +105,7 @@ module _ (r : Session) (size : Sized (r .state)) (j x ps a b : List ℕ) (none :
   right = config-right r size (fine .record-ok)
 
   pub agree : Agree r j
-  unfolding replayed replays decode
+  unfolding matches replays decode
   agree =
       let e = fine .replays-it in
       record {
@@ -127,7 +127,7 @@ module _ (r : Session) (size : Sized (r .state)) (j x ps a b : List ℕ) (none :
     pub state : s ≡ encode (state-of c (made i))
     pub calls-are : calls ≡ calls-of c (made i)
     pub journal : j′ ≡ with-front j (bytes (made i))
-    pub told : a′ ≡ with-front a (class-answers c x ms (take i ps))
+    pub numbers : a′ ≡ with-front a (class-answers c x ms (take i ps))
     pub shows : b′ ≡ with-front b (class-pictures c x ms (take i ps))
 
   pub going-start : (calls : List ℕ) → calls ≡ tabulate (progress-in r j) 0 33 → Going 0 0 (r .state) calls j a b
@@ -139,7 +139,7 @@ module _ (r : Session) (size : Sized (r .state)) (j x ps a b : List ℕ) (none :
         state = sym (encode-decode (r .state) size (state-right r size (fine .record-ok))) ∙ ap encode (agree .state);
         calls-are = e;
         journal = with-front-same j (bytes ms) (ap (λ (n : ℕ). take n j) (length-bytes ms) ∙ whole-is r j agree (fine .enough));
-        told = refl;
+        numbers = refl;
         shows = refl;
       }
 
@@ -148,8 +148,8 @@ module _ (r : Session) (size : Sized (r .state)) (j x ps a b : List ℕ) (none :
   unfolding start
   few-moves i = omega (arith, accepted-length (made i) (start c) (omega arith) (made-ok i))
 
-  told-length : (i : ℕ) → i ≤ length ps → length (class-answers c x ms (take i ps)) ≡ i
-  told-length i h = answers-length c x (take i ps) ms ∙ length-take-le i ps h
+  numbers-length : (i : ℕ) → i ≤ length ps → length (class-answers c x ms (take i ps)) ≡ i
+  numbers-length i h = answers-length c x (take i ps) ms ∙ length-take-le i ps h
 
   shown-length : (i : ℕ) → i ≤ length ps → length (class-pictures c x ms (take i ps)) ≡ i * picture-size c
   shown-length i h = pictures-length c right x (take i ps) ms (agree .legal) ∙ ap (λ (n : ℕ). n * picture-size c) (length-take-le i ps h)
@@ -158,8 +158,8 @@ module _ (r : Session) (size : Sized (r .state)) (j x ps a b : List ℕ) (none :
     journal-size : length j′ ≡ length j
     journal-size = ap length (g .journal) ∙ with-front-length j (bytes (made i)) (omega (arith, length-bytes (made i), few-moves i, fine .enough))
 
-    told-size : length a′ ≡ length a
-    told-size = ap length (g .told) ∙ with-front-length a (class-answers c x ms (take i ps)) (omega (arith, told-length i (g .few), fine .room .0))
+    numbers-size : length a′ ≡ length a
+    numbers-size = ap length (g .numbers) ∙ with-front-length a (class-answers c x ms (take i ps)) (omega (arith, numbers-length i (g .few), fine .room .0))
 
     short-of : i * picture-size c ≤ length ps * picture-size c
     short-of = mul-le-mul-right (picture-size c) (g .few)
@@ -173,8 +173,8 @@ module _ (r : Session) (size : Sized (r .state)) (j x ps a b : List ℕ) (none :
         record {
           state = g .state ∙ ap (λ (l : List ℕ). encode (state-of c (class-moves c x ms l))) whole;
           journal = g .journal ∙ ap (λ (l : List ℕ). with-front j (bytes (class-moves c x ms l))) whole;
-          told = g .told ∙ ap (λ (l : List ℕ). with-front a (class-answers c x ms l)) whole;
-          shown = g .shows ∙ ap (λ (l : List ℕ). with-front b (class-pictures c x ms l)) whole;
+          numbers = g .numbers ∙ ap (λ (l : List ℕ). with-front a (class-answers c x ms l)) whole;
+          pictured = g .shows ∙ ap (λ (l : List ℕ). with-front b (class-pictures c x ms l)) whole;
         }
 
     -- there is room for one more picture
@@ -184,7 +184,7 @@ module _ (r : Session) (size : Sized (r .state)) (j x ps a b : List ℕ) (none :
         omega (arith, suc-mul i (picture-size c), g .place, fine .room .1)
 
     pub rooms : Rooms j ps a b (picture-size c) i at j′ a′ b′
-    rooms = record { few = g .few; journal = journal-size; answers = told-size; pictures = shown-size; room = fine .room .0; next = next-fits }
+    rooms = record { few = g .few; journal = journal-size; answers = numbers-size; pictures = shown-size; room = fine .room .0; next = next-fits }
 
     module _ (h : i < length ps) where
       abbrev p : ℕ
@@ -196,9 +196,9 @@ module _ (r : Session) (size : Sized (r .state)) (j x ps a b : List ℕ) (none :
       made-more : made (i + 1) ≡ turn-after c x (made i) p
       made-more = ap (class-moves c x ms) one-more ∙ moves-more c x (take i ps) ms p
 
-      module _ (t : Taken) (e : t ≡ taken-of s calls x p) where
+      module _ (t : Made) (e : t ≡ turn-result s calls x p) where
         turn : Turn c right (made i) (made-ok i) x p t
-        turn = turn-taken c right (made i) (made-ok i) x p t (e ∙ (λ d. taken-of (g .state d) (g .calls-are d) x p))
+        turn = turn-taken c right (made i) (made-ok i) x p t (e ∙ (λ d. turn-result (g .state d) (g .calls-are d) x p))
 
         abbrev m : Move
         m = turned c x (made i) p
@@ -265,9 +265,9 @@ module _ (r : Session) (size : Sized (r .state)) (j x ps a b : List ℕ) (none :
               journal =
                   je ∙ (λ d. choose (eqb (turn .refusal d) 0) (stored j′ (applied d) (turn .move d)) j′) ∙ joined (eqb (turn-cause c x (made i) p) 0) refl ∙
                   ap (λ (l : List Move). with-front j (bytes l)) (sym made-more);
-              told =
-                  ae ∙ (λ d. set (g .told d) i (turn .refusal d)) ∙
-                  with-front-set a (class-answers c x ms (take i ps)) (turn-cause c x (made i) p) i (told-length i (g .few)) (omega (arith, fine .room .0)) ∙
+              numbers =
+                  ae ∙ (λ d. set (g .numbers d) i (turn .refusal d)) ∙
+                  with-front-set a (class-answers c x ms (take i ps)) (turn-cause c x (made i) p) i (numbers-length i (g .few)) (omega (arith, fine .room .0)) ∙
                   ap (with-front a) (sym (ap (class-answers c x ms) one-more ∙ answers-more c x (take i ps) ms p));
               shows = shown-more w we;
             }

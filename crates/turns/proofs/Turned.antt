@@ -10,10 +10,9 @@ use lib.ListN.{getD}
 use borrow.Author.Tests.{eqb-true}
 use Rattle.state.specs.declared.Processor.{Processor}
 use Rattle.state.specs.declared.State.{State as Record}
-use Rattle.state.specs.Record.{processor-of}
+use Rattle.state.specs.Record.{processor-of, Sized}
 use Rattle.state.specs.Association.{encode, decode, processor-record}
 use Rattle.state.specs.Rules.{state-ok}
-use Rattle.state.proofs.Sized.{Sized}
 use Rattle.association.proofs.Shown.{read-processor}
 use Rattle.association.proofs.Tables.{tabulate-read}
 use Rattle.shown.proofs.Kept.{state-kept, fields-say, processor-says, facts}
@@ -21,7 +20,7 @@ use Rattle.shown.proofs.Regular.{regular-fits, allowed-regular}
 use Rattle.shown.proofs.Encode.{encode-decode, decode-allowed}
 use Rattle.shown.proofs.Unique.{encode-sized}
 use Rattle.step.specs.declared.Moved.{Moved}
-use Rattle.step.specs.Model.{moved-of, noted}
+use Rattle.step.specs.model.Moves.{moved-of, noted}
 use Rattle.reference.specs.Lists.{choose, in-range, tabulate}
 use Rattle.reference.specs.State.{State, processor-at}
 use Rattle.reference.specs.Start.{Config, config-cause, start}
@@ -33,8 +32,8 @@ use Rattle.reference.proofs.Moves.{run-snoc}
 use Rattle.session.proofs.Shown.{state-right, state-back}
 use Rattle.session.proofs.Reached.{made-of, moved-reached}
 use Rattle.session.proofs.Counted.{calls-of, noted-more}
-use Rattle.turns.specs.declared.taken.Taken.{Taken}
-use Rattle.turns.specs.Model.{turn-of, taken-by, taken-of}
+use Rattle.turns.specs.declared.made.Made.{Made}
+use Rattle.turns.specs.model.Turn.{turn-of, made-by, turn-result}
 
 -- ---- the move of a turn, on a record that keeps the rules
 
@@ -92,8 +91,8 @@ its-own s made x p = by (at-app s p) (call-own (processor-at s p .current) (made
 
 pub taken-made : (s : Record) (calls x : List ℕ) (p : ℕ) (m : Move) → m ≡ turn-of (processor-of s p) calls x p → (made : Moved) → made ≡ moved-of s p (m .action) (m .operand) →
     (counted : List ℕ) → counted ≡ choose (eqb (made .refusal) 0) (choose (eqb (m .action) 0) calls (noted calls (processor-of s p .current))) calls →
-    record { refusal = made .refusal; action = m .action; operand = m .operand; state = made .state; calls = counted } ≡ taken-of s calls x p
-unfolding taken-of
+    record { refusal = made .refusal; action = m .action; operand = m .operand; state = made .state; calls = counted } ≡ turn-result s calls x p
+unfolding turn-result
 taken-made s calls x p m e made is counted h =
     (λ i. record { refusal = made .refusal; action = m .action; operand = m .operand; state = made .state; calls = h i }) ∙
     ap
@@ -105,7 +104,7 @@ taken-made s calls x p m e made is counted h =
       state = q .state;
       calls = choose (eqb (q .refusal) 0) (choose (eqb (m .action) 0) calls (noted calls (processor-of s p .current))) calls;
     })
-    is ∙ ap (taken-by s calls p) e
+    is ∙ ap (made-by s calls p) e
 
 -- ---- a turn on the record of a state that accepted moves give, with their calls counted
 
@@ -124,7 +123,7 @@ module _ (c : Config) (right : config-cause c ≡ 0) (ms : List Move) (ok : acce
   made-is : moved-of (encode s) p (a .action) (a .operand) ≡ made-of s a
   made-is = moved-reached c ms right ok (move-of p (a .action) (a .operand)) ∙ ap (made-of s) (its-own s (progress (start c) ms) x p)
 
-  pub record Turn (t : Taken) : Type 0 where
+  pub record Turn (t : Made) : Type 0 where
     pub refusal : t .refusal ≡ turn-cause c x ms p
     pub move : move-of p (t .action) (t .operand) ≡ turned c x ms p
     pub state : t .state ≡ encode (run (start c) (turn-after c x ms p))
@@ -143,7 +142,7 @@ module _ (c : Config) (right : config-cause c ≡ 0) (ms : List Move) (ok : acce
       noted-more c right ms ok a (eqb-true (cause s a) 0 e)
   after-calls false e = refl
 
-  taken-turn : Turn (taken-by (encode s) (calls-of c ms) p a)
+  taken-turn : Turn (made-by (encode s) (calls-of c ms) p a)
   taken-turn =
       record {
         refusal = ap (λ (m : Moved). m .refusal) made-is;
@@ -157,6 +156,6 @@ module _ (c : Config) (right : config-cause c ≡ 0) (ms : List Move) (ok : acce
             after-calls (eqb (cause s a) 0) refl;
       }
 
-  pub turn-taken : (t : Taken) → t ≡ taken-of (encode s) (calls-of c ms) x p → Turn t
-  unfolding taken-of
-  turn-taken t e = rw (e ∙ ap (taken-by (encode s) (calls-of c ms) p) move-is) taken-turn
+  pub turn-taken : (t : Made) → t ≡ turn-result (encode s) (calls-of c ms) x p → Turn t
+  unfolding turn-result
+  turn-taken t e = rw (e ∙ ap (made-by (encode s) (calls-of c ms) p) move-is) taken-turn

@@ -10,7 +10,7 @@ use Rattle.session.specs.declared.Answer.{Answer}
 use Rattle.state.specs.declared.Session.{Session}
 use Rattle.state.specs.Record.{zero-session}
 use Rattle.state.specs.Association.{session-record}
-use Rattle.session.specs.Contract.{shown, config-of, answered, or-later, lent-refusal, standing, replayed, progress-in, move-refusal, moved, journal-after}
+use Rattle.session.specs.Contract.{shown, config-of, answered, or-later, lent-refusal, standing, matches, progress-in, move-refusal, moved, journal-after}
 use Rattle.reference.specs.Refusal.{too-short, bad-journal, refuse}
 use Rattle.reference.specs.Lists.{choose, with-front}
 use Rattle.reference.specs.Start.{Config, config-cause, start}
@@ -47,7 +47,7 @@ module _ (r : Session) (j x ps answers pictures : List ℕ) where
   class-refusal =
       or-later (lent-refusal r (length j))
       (refuse (lacks-room (config-of r) (length ps) answers pictures) too-short
-      (refuse (not (replayed r j)) bad-journal (scripts-cause (r .state .t) x)))
+      (refuse (not (matches r j)) bad-journal (scripts-cause (r .state .t) x)))
 
   -- the moves that stand after it
   abbrev pub class-made : List Move

@@ -1,15 +1,15 @@
 // Scripted threads: a scripted start, a turn, and a class of turns.
+mod made;
 mod sequence;
-mod taken;
 
 ghost use mathlib.Core.Path.{_≡_};
 ghost use lib.ListN.{length};
 ghost use Rattle.script.specs.Association.{move-in};
 ghost use Rattle.session.specs.Contract.{table, lent-refusal};
 ghost use Rattle.turns.specs.Contract.{scripted, turn-made, turned, turn-journal, classed, class-journal, answers-after, pictures-after};
+use crate::made::turn_move;
 use crate::sequence::take_turns;
 use crate::sequence::unfit;
-use crate::taken::turn_move;
 use script::Move;
 use script::scripts_ok;
 use session::Answer;
@@ -19,8 +19,7 @@ use session::test_journal;
 use state::Position;
 use state::Session;
 use state::State;
-
-const BAD_SCRIPT: u8 = 19;
+use state::refusal::Refusal;
 
 // Begins a session whose threads have scripts: P processors, T threads, M mutexes, B threads created at first; stealing as in session::start.
 pub fn start(p: u8, t: u8, m: u8, b: u8, stealing: u8, scripts: &[u8]) -> Answer
@@ -36,7 +35,7 @@ pub fn start(p: u8, t: u8, m: u8, b: u8, stealing: u8, scripts: &[u8]) -> Answer
     }
     let state = State::zero();
     Answer {
-        refusal: BAD_SCRIPT,
+        refusal: Refusal::BAD_SCRIPT,
         session: Session { state, initial: 0 },
     }
 }
@@ -76,7 +75,7 @@ pub fn turn(session: Session, journal: &mut [u8], scripts: &[u8], p: u8) -> Answ
         return make_move(session, journal, p, a.action, a.operand);
     }
     Answer {
-        refusal: BAD_SCRIPT,
+        refusal: Refusal::BAD_SCRIPT,
         session,
     }
 }
@@ -129,7 +128,7 @@ pub fn class(
         };
     }
     Answer {
-        refusal: BAD_SCRIPT,
+        refusal: Refusal::BAD_SCRIPT,
         session,
     }
 }

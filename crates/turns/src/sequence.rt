@@ -8,22 +8,15 @@ ghost use Rattle.reference.specs.Lists.{choose};
 ghost use Rattle.reference.specs.Refusal.{too-short, refuse};
 ghost use Rattle.reference.specs.Session.{picture-size};
 ghost use Rattle.session.specs.Contract.{config-of, or-later, lent-refusal};
-ghost use Rattle.turns.specs.Model.{Ready, Given};
-use crate::taken::take_turn;
+ghost use Rattle.turns.specs.model.Turn.{Ready, Given};
+use crate::made::make_turn;
+use picture::writer::put;
 use session::journal::write_move;
 use session::lent;
-use snapshot::writer::put;
 use state::Session;
 use state::State;
-
-const TOO_SHORT: u8 = 10;
-
-// How long a picture is.
-pub(crate) fn picture_size(p: u8, t: u8, m: u8) -> usize
-    ensures { λ r. ⌜ r ≡ 8 + 12 * p + 8 * m + 4 * t ⌝ }
-{
-    8 + 12 * (p as usize) + 8 * (m as usize) + 4 * (t as usize)
-}
+use state::layout::picture_bytes;
+use state::refusal::Refusal;
 
 // Why buffers of these lengths do not serve for n turns, or the record does not: 10 (journal), 15, 10 (answers, pictures).
 pub(crate) fn unfit(
@@ -40,9 +33,9 @@ pub(crate) fn unfit(
         return first;
     }
     let state = session.state;
-    let size = picture_size(state.p, state.t, state.m);
+    let size = picture_bytes(state.p, state.t, state.m);
     let full = (answers < n) | (pictures / size < n);
-    if full { TOO_SHORT } else { 0 }
+    if full { Refusal::TOO_SHORT } else { 0 }
 }
 
 // An accepted move joins the journal's n moves.
@@ -69,13 +62,13 @@ pub(crate) fn take_turns(
 {
     let mut state = session.state;
     let mut calls = calls;
-    let size = picture_size(state.p, state.t, state.m);
+    let size = picture_bytes(state.p, state.t, state.m);
     let mut at: usize = 0;
     let mut i: usize = 0;
     while i < turns.len() {
         let p = turns[i];
         let n = state.applied;
-        let done = take_turn(state, calls, scripts, p);
+        let done = make_turn(state, calls, scripts, p);
         keep_move(journal, done.refusal, n, p, done.action, done.operand);
         answers[i] = done.refusal;
         let next = done.state;

@@ -201,13 +201,13 @@ fn boundaries_of_classes() {
 
 /// The line program's session as a start table and the list of its standing moves.
 #[derive(Default)]
-struct Sitting {
+struct ProgramSession {
     table: Option<Table>,
     stealing: u8,
     moves: Vec<u8>,
 }
 
-impl Sitting {
+impl ProgramSession {
     /// The answer to a line whose answer is not `?`.
     fn answer(&mut self, line: &str) -> String {
         let (word, rest) = line.split_once(' ').unwrap_or((line, ""));
@@ -219,7 +219,7 @@ impl Sitting {
                 let stealing = rest.get(4).copied().unwrap_or(0);
                 let begun = replay_with(table, stealing, &[], &mut picture);
                 if begun.number == 0 {
-                    *self = Sitting { table: Some(table), stealing, moves: Vec::new() };
+                    *self = ProgramSession { table: Some(table), stealing, moves: Vec::new() };
                 }
                 begun.number.to_string()
             }
@@ -261,14 +261,14 @@ fn program_sessions() {
             continue;
         }
         let output = text(&path.with_extension("out"));
-        let mut sitting = Sitting::default();
+        let mut session = ProgramSession::default();
         let lines: Vec<&[u8]> = input.split(|&byte| byte == b'\n').collect();
         assert_eq!(lines.len(), output.lines().count(), "{}", path.display());
         for (line, wanted) in lines.iter().zip(output.lines()) {
             // Lines that are no command are the program's own affair.
             if wanted != "?" {
                 let line = std::str::from_utf8(line).unwrap();
-                assert_eq!(sitting.answer(line), wanted, "{} {line}", path.display());
+                assert_eq!(session.answer(line), wanted, "{} {line}", path.display());
                 compared += 1;
             }
         }

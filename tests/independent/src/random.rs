@@ -124,7 +124,7 @@ pub struct Driver {
 /// Where a kept processor has observed a token: its mutex and the token's processor,
 /// which is driven to hand off again there.
 #[derive(Clone, Copy)]
-struct Chase {
+struct Target {
     mutex: u8,
     processor: u8,
 }
@@ -180,7 +180,7 @@ impl Driver {
         for left in &mut self.held {
             *left = left.saturating_sub(1);
         }
-        let kept = if self.chase(state).is_some() { self.kept.0 } else { 0 };
+        let kept = if self.target(state).is_some() { self.kept.0 } else { 0 };
         let all: Vec<u8> = (1..=state.processor_count()).collect();
         let late: Vec<u8> = all.iter().copied().filter(|&p| is_late(state, p)).collect();
         if !late.is_empty() && self.generator.once_in(2) {
@@ -203,8 +203,8 @@ impl Driver {
         }
     }
 
-    /// The chase that the kept processor calls for, one call less.
-    fn chase(&mut self, state: &State) -> Option<Chase> {
+    /// The target that the kept processor calls for, one call less.
+    fn target(&mut self, state: &State) -> Option<Target> {
         let (p, left) = self.kept;
         if left == 0 {
             return None;
@@ -212,7 +212,7 @@ impl Driver {
         let here = state.processor(p);
         let observing = matches!(here.position, Position::L8 | Position::GT3);
         self.kept = if observing { (p, left - 1) } else { (0, 0) };
-        observing.then_some(Chase { mutex: here.mutex, processor: here.observed.processor })
+        observing.then_some(Target { mutex: here.mutex, processor: here.observed.processor })
     }
 
     /// Holds a processor back for a while after lines where others can overtake it.
@@ -235,12 +235,12 @@ impl Driver {
         }
     }
 
-    /// A call that brings the chased processor to another hand-off, if one helps.
-    fn chase_call(&mut self, state: &State, p: u8, chase: Chase) -> Option<Move> {
-        let m = chase.mutex;
+    /// A call that brings the target processor to another hand-off, if one helps.
+    fn target_call(&mut self, state: &State, p: u8, target: Target) -> Option<Move> {
+        let m = target.mutex;
         let mutex = state.mutex(m);
         let owns = mutex.owner == state.processor(p).current;
-        if p == chase.processor {
+        if p == target.processor {
             let free = mutex.count == 0 || mutex.token != Token::NONE;
             // An owner passes the time with trylocks until another thread locks.
             let unlocks = owns && nobody_queued(state, m);
@@ -250,9 +250,9 @@ impl Driver {
                 _ => None,
             };
         }
-        let chased_owns =
-            mutex.owner != 0 && mutex.owner == state.processor(chase.processor).current;
-        match (owns, chased_owns && mutex.count == 1) {
+        let target_owns =
+            mutex.owner != 0 && mutex.owner == state.processor(target.processor).current;
+        match (owns, target_owns && mutex.count == 1) {
             (true, _) => Some([p, UNLOCK, m]),
             (false, true) => Some([p, LOCK, m]),
             _ => None,
@@ -269,9 +269,9 @@ impl Driver {
 
     /// A call for the current thread of a processor at App.
     fn choose_call(&mut self, state: &State, p: u8) -> Move {
-        if let Some(chase) = self.chase(state) {
+        if let Some(target) = self.target(state) {
             if !self.generator.once_in(4) {
-                if let Some(call) = self.chase_call(state, p, chase) {
+                if let Some(call) = self.target_call(state, p, target) {
                     return call;
                 }
             }

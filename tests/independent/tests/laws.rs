@@ -22,7 +22,7 @@ struct Coverage {
 }
 
 /// Runs one session both as a record with a journal and as a plain list.
-struct Sitting {
+struct ComparedSession {
     plain: Plain,
     state: State,
     history: History,
@@ -30,12 +30,12 @@ struct Sitting {
     journal: Vec<u8>,
 }
 
-impl Sitting {
-    fn new(config: Config, generator: &mut Generator) -> Sitting {
+impl ComparedSession {
+    fn new(config: Config, generator: &mut Generator) -> ComparedSession {
         let begun = session::start(config);
         assert_eq!(begun.number, 0);
         let filler = generator.byte();
-        Sitting {
+        ComparedSession {
             plain: Plain::new(config),
             state: State::start(config),
             history: History::start(config),
@@ -181,20 +181,20 @@ fn check_ahead(state: &State, snapshot: &Snapshot) {
 /// A session of at most `calls` calls.
 fn sit(config: Config, seed: u64, calls: usize, rates: Rates, coverage: &mut Coverage) {
     let mut driver = Driver::new(seed, rates);
-    let mut sitting = Sitting::new(config, &mut driver.generator);
-    sitting.check();
+    let mut session = ComparedSession::new(config, &mut driver.generator);
+    session.check();
     for call in 0..calls {
-        match driver.next_call(&sitting.state) {
-            Call::Move(made) => sitting.make_move(made, coverage),
-            Call::Undo => sitting.undo(coverage),
+        match driver.next_call(&session.state) {
+            Call::Move(made) => session.make_move(made, coverage),
+            Call::Undo => session.undo(coverage),
         }
-        sitting.check();
+        session.check();
         if call % 16 == 0 {
-            check_picture(&sitting.record.snapshot, &mut driver.generator);
-            check_ahead(&sitting.state, &sitting.record.snapshot);
+            check_picture(&session.record.snapshot, &mut driver.generator);
+            check_ahead(&session.state, &session.record.snapshot);
         }
     }
-    sitting.check_journal();
+    session.check_journal();
 }
 
 #[test]

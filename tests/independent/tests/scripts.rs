@@ -12,18 +12,18 @@ use independent::worked::{self, Worked};
 const FILLER: u8 = 0xa5;
 
 /// A session under scripts, record and journal.
-struct Sitting {
+struct ScriptedSession {
     scripts: Vec<u8>,
     record: Record,
     journal: Vec<u8>,
 }
 
-impl Sitting {
-    fn new(config: Config, scripts: &[[u8; SCRIPT]]) -> Sitting {
+impl ScriptedSession {
+    fn new(config: Config, scripts: &[[u8; SCRIPT]]) -> ScriptedSession {
         let scripts = scripts.concat();
         let begun = script::start(config, &scripts);
         assert_eq!((begun.number, begun.value), (0, session::start(config).value));
-        Sitting { scripts, record: begun.value, journal: vec![FILLER; JOURNAL] }
+        ScriptedSession { scripts, record: begun.value, journal: vec![FILLER; JOURNAL] }
     }
 
     /// Takes a turn and gives its number; a refused one changes nothing.
@@ -223,12 +223,12 @@ fn order_of_refusals() {
 fn bad_operands() {
     for call in [[LOCK, 0], [LOCK, 2], [TRYLOCK, 255], [UNLOCK, 0], [YIELD, 1], [EXIT, 1]] {
         let scripts = [script(&[[YIELD, 0], call]), script(&[])];
-        let mut sitting = Sitting::new(Config::new(2, 2, 1, 2), &scripts);
-        sitting.turns(&[1, 1]);
-        assert_eq!(sitting.turn(1), 3);
-        sitting.turns(&[2, 2]);
-        assert_eq!(sitting.turn(1), 3);
-        assert_eq!(sitting.progress(), [1, 1]);
+        let mut session = ScriptedSession::new(Config::new(2, 2, 1, 2), &scripts);
+        session.turns(&[1, 1]);
+        assert_eq!(session.turn(1), 3);
+        session.turns(&[2, 2]);
+        assert_eq!(session.turn(1), 3);
+        assert_eq!(session.progress(), [1, 1]);
     }
 }
 
@@ -237,19 +237,19 @@ fn bad_operands() {
 fn spent_scripts_exit() {
     let calls = [[LOCK, 1], [UNLOCK, 1], [YIELD, 0], [TRYLOCK, 1], [UNLOCK, 1], [TRYLOCK, 2]];
     for count in 0..=6 {
-        let mut sitting = Sitting::new(Config::new(1, 1, 2, 1), &[script(&calls[..count])]);
+        let mut session = ScriptedSession::new(Config::new(1, 1, 2, 1), &[script(&calls[..count])]);
         for [action, operand] in &calls[..count] {
             // Nobody else is there, so each call takes one line.
-            sitting.turns(&[1]);
-            assert_eq!(sitting.last(), [1, *action, *operand]);
-            sitting.turns(&[1]);
-            assert_eq!(sitting.last(), [1, GO, 0]);
+            session.turns(&[1]);
+            assert_eq!(session.last(), [1, *action, *operand]);
+            session.turns(&[1]);
+            assert_eq!(session.last(), [1, GO, 0]);
         }
-        sitting.turns(&[1]);
-        assert_eq!(sitting.last(), [1, EXIT, 0]);
-        assert_eq!(sitting.progress(), [count as u16 + 1]);
-        sitting.turns(&[1, 1]);
-        assert_eq!((sitting.last(), sitting.position(1)), ([1, GO, 0], Position::CI2));
+        session.turns(&[1]);
+        assert_eq!(session.last(), [1, EXIT, 0]);
+        assert_eq!(session.progress(), [count as u16 + 1]);
+        session.turns(&[1, 1]);
+        assert_eq!((session.last(), session.position(1)), ([1, GO, 0], Position::CI2));
     }
 }
 
@@ -257,12 +257,12 @@ fn spent_scripts_exit() {
 #[test]
 fn exit_inside_a_script() {
     let scripts = [script(&[[EXIT, 0], [LOCK, 1]]), script(&[[LOCK, 1]])];
-    let mut sitting = Sitting::new(Config::new(1, 2, 1, 2), &scripts);
-    sitting.turns(&[1, 1, 1]);
-    assert_eq!(sitting.record.state().unwrap().life(1), Life::Ended);
-    sitting.turns(&[1]);
-    assert_eq!(sitting.last(), [1, LOCK, 1]);
-    assert_eq!(sitting.progress(), [1, 1]);
+    let mut session = ScriptedSession::new(Config::new(1, 2, 1, 2), &scripts);
+    session.turns(&[1, 1, 1]);
+    assert_eq!(session.record.state().unwrap().life(1), Life::Ended);
+    session.turns(&[1]);
+    assert_eq!(session.last(), [1, LOCK, 1]);
+    assert_eq!(session.progress(), [1, 1]);
 }
 
 /// Two threads create the same one: the later is refused by 7 however the others move, and its
@@ -270,38 +270,38 @@ fn exit_inside_a_script() {
 #[test]
 fn refused_call_is_tried_again() {
     let scripts = [script(&[[CREATE, 3], [LOCK, 1]]), script(&[[CREATE, 3]]), script(&[])];
-    let mut sitting = Sitting::new(Config::new(3, 3, 1, 2), &scripts);
-    sitting.turns(&[2]);
-    assert_eq!(sitting.turn(1), 7);
-    sitting.turns(&[2, 3, 3]);
-    assert_eq!(sitting.turn(1), 7);
-    assert_eq!(sitting.progress(), [0, 1, 0]);
+    let mut session = ScriptedSession::new(Config::new(3, 3, 1, 2), &scripts);
+    session.turns(&[2]);
+    assert_eq!(session.turn(1), 7);
+    session.turns(&[2, 3, 3]);
+    assert_eq!(session.turn(1), 7);
+    assert_eq!(session.progress(), [0, 1, 0]);
     for _ in 0..3 {
-        sitting.undo();
-        assert_eq!(sitting.turn(1), 7);
+        session.undo();
+        assert_eq!(session.turn(1), 7);
     }
-    sitting.undo();
-    sitting.turns(&[1]);
-    assert_eq!(sitting.last(), [1, CREATE, 3]);
-    assert_eq!(sitting.turn(2), 7);
-    sitting.turns(&[1, 1]);
-    assert_eq!(sitting.last(), [1, LOCK, 1]);
-    assert_eq!(sitting.progress(), [2, 0, 0]);
+    session.undo();
+    session.turns(&[1]);
+    assert_eq!(session.last(), [1, CREATE, 3]);
+    assert_eq!(session.turn(2), 7);
+    session.turns(&[1, 1]);
+    assert_eq!(session.last(), [1, LOCK, 1]);
+    assert_eq!(session.progress(), [2, 0, 0]);
 }
 
 /// Stepping back gives a call back to its thread's script.
 #[test]
 fn steps_back_return_calls() {
     let scripts = [script(&[[YIELD, 0], [LOCK, 1]])];
-    let mut sitting = Sitting::new(Config::new(1, 1, 1, 1), &scripts);
+    let mut session = ScriptedSession::new(Config::new(1, 1, 1, 1), &scripts);
     for _ in 0..3 {
-        sitting.turns(&[1, 1, 1]);
-        assert_eq!((sitting.last(), sitting.progress()), ([1, LOCK, 1], vec![2]));
-        sitting.undo();
-        assert_eq!(sitting.progress(), [1]);
-        sitting.undo();
-        sitting.undo();
-        assert_eq!(sitting.progress(), [0]);
+        session.turns(&[1, 1, 1]);
+        assert_eq!((session.last(), session.progress()), ([1, LOCK, 1], vec![2]));
+        session.undo();
+        assert_eq!(session.progress(), [1]);
+        session.undo();
+        session.undo();
+        assert_eq!(session.progress(), [0]);
     }
 }
 
@@ -313,24 +313,24 @@ fn threads_migrate_with_their_progress() {
         script(&[[YIELD, 0], [TRYLOCK, 2], [YIELD, 0]]),
         script(&[]),
     ];
-    let mut sitting = Sitting::new(Config::new(2, 3, 2, 3), &scripts);
+    let mut session = ScriptedSession::new(Config::new(2, 3, 2, 3), &scripts);
     // Thread 1 yields (Y1, Y2, Y3); processor 1 runs thread 3 (CI2, CI3).
-    sitting.turns(&[1, 1, 1, 1, 1, 1]);
+    session.turns(&[1, 1, 1, 1, 1, 1]);
     // Thread 2 yields, and processor 2 runs thread 1.
-    sitting.turns(&[2, 2, 2, 2, 2, 2]);
-    let state = sitting.record.state().unwrap();
+    session.turns(&[2, 2, 2, 2, 2, 2]);
+    let state = session.record.state().unwrap();
     assert_eq!([1, 2].map(|p| state.processor(p).current), [3, 1]);
-    assert_eq!(sitting.progress(), [1, 1, 0]);
-    sitting.turns(&[2]);
-    assert_eq!(sitting.last(), [2, LOCK, 1]);
+    assert_eq!(session.progress(), [1, 1, 0]);
+    session.turns(&[2]);
+    assert_eq!(session.last(), [2, LOCK, 1]);
     // Thread 3 exits, and processor 1 runs thread 2.
-    sitting.turns(&[1]);
-    assert_eq!(sitting.last(), [1, EXIT, 0]);
-    sitting.turns(&[1, 1, 1]);
-    assert_eq!(sitting.last(), [1, TRYLOCK, 2]);
-    sitting.turns(&[2, 2]);
-    assert_eq!(sitting.last(), [2, UNLOCK, 1]);
-    assert_eq!(sitting.progress(), [3, 2, 1]);
+    session.turns(&[1]);
+    assert_eq!(session.last(), [1, EXIT, 0]);
+    session.turns(&[1, 1, 1]);
+    assert_eq!(session.last(), [1, TRYLOCK, 2]);
+    session.turns(&[2, 2]);
+    assert_eq!(session.last(), [2, UNLOCK, 1]);
+    assert_eq!(session.progress(), [3, 2, 1]);
 }
 
 /// A waiting thread that another processor takes from the queue goes on with its script.
@@ -338,35 +338,35 @@ fn threads_migrate_with_their_progress() {
 fn handed_off_thread_goes_on() {
     let scripts =
         [script(&[[LOCK, 1], [UNLOCK, 1]]), script(&[[LOCK, 1], [UNLOCK, 1], [YIELD, 0]])];
-    let mut sitting = Sitting::new(Config::new(2, 2, 1, 2), &scripts);
+    let mut session = ScriptedSession::new(Config::new(2, 2, 1, 2), &scripts);
     // 1 owns; 2 locks and waits (L1, L3, L4, L6, CI2).
-    sitting.turns(&[1, 1, 2, 2, 2, 2, 2, 2]);
+    session.turns(&[1, 1, 2, 2, 2, 2, 2, 2]);
     // 1 unlocks (U1, H2, H3) and exits; processor 1 runs thread 2 (CI2, CI3).
-    sitting.turns(&[1, 1, 1, 1, 1, 1, 1]);
-    assert_eq!(sitting.record.state().unwrap().processor(1).current, 2);
-    sitting.turns(&[1]);
-    assert_eq!(sitting.last(), [1, UNLOCK, 1]);
-    assert_eq!(sitting.progress(), [3, 2]);
+    session.turns(&[1, 1, 1, 1, 1, 1, 1]);
+    assert_eq!(session.record.state().unwrap().processor(1).current, 2);
+    session.turns(&[1]);
+    assert_eq!(session.last(), [1, UNLOCK, 1]);
+    assert_eq!(session.progress(), [3, 2]);
 }
 
 /// A created thread begins its own script.
 #[test]
 fn created_threads_have_scripts() {
     let scripts = [script(&[[CREATE, 2]]), script(&[[CREATE, 3], [YIELD, 0]]), script(&[])];
-    let mut sitting = Sitting::new(Config::new(1, 3, 1, 1), &scripts);
-    sitting.turns(&[1, 1, 1, 1, 1]);
-    assert_eq!(sitting.record.state().unwrap().processor(1).current, 2);
-    sitting.turns(&[1]);
-    assert_eq!(sitting.last(), [1, CREATE, 3]);
-    sitting.turns(&[1, 1]);
-    assert_eq!(sitting.last(), [1, YIELD, 0]);
+    let mut session = ScriptedSession::new(Config::new(1, 3, 1, 1), &scripts);
+    session.turns(&[1, 1, 1, 1, 1]);
+    assert_eq!(session.record.state().unwrap().processor(1).current, 2);
+    session.turns(&[1]);
+    assert_eq!(session.last(), [1, CREATE, 3]);
+    session.turns(&[1, 1]);
+    assert_eq!(session.last(), [1, YIELD, 0]);
     // Y1, Y2, Y3, CI2, CI3: thread 3 runs and exits, then thread 2 does.
-    sitting.turns(&[1; 6]);
-    assert_eq!((sitting.last(), sitting.progress()), ([1, EXIT, 0], vec![2, 2, 1]));
-    sitting.turns(&[1; 3]);
-    assert_eq!((sitting.last(), sitting.progress()), ([1, EXIT, 0], vec![2, 3, 1]));
-    sitting.turns(&[1; 2]);
-    assert!(sitting.record.state().unwrap().lives.iter().all(|&life| life == Life::Ended));
+    session.turns(&[1; 6]);
+    assert_eq!((session.last(), session.progress()), ([1, EXIT, 0], vec![2, 2, 1]));
+    session.turns(&[1; 3]);
+    assert_eq!((session.last(), session.progress()), ([1, EXIT, 0], vec![2, 3, 1]));
+    session.turns(&[1; 2]);
+    assert!(session.record.state().unwrap().lives.iter().all(|&life| life == Life::Ended));
 }
 
 /// Calls by plain moves count, whatever they are; goes do not.
@@ -374,22 +374,22 @@ fn created_threads_have_scripts() {
 fn plain_calls_count() {
     let scripts = [script(&[[LOCK, 1], [UNLOCK, 1], [YIELD, 0]]), script(&[[CREATE, 3]])];
     let scripts = [scripts[0], scripts[1], script(&[])];
-    let mut sitting = Sitting::new(Config::new(2, 3, 1, 2), &scripts);
-    sitting.make_move([1, LOCK, 1]);
-    sitting.make_move([1, GO, 0]);
-    sitting.turns(&[1]);
-    assert_eq!(sitting.last(), [1, UNLOCK, 1]);
-    sitting.make_move([1, GO, 0]);
+    let mut session = ScriptedSession::new(Config::new(2, 3, 1, 2), &scripts);
+    session.make_move([1, LOCK, 1]);
+    session.make_move([1, GO, 0]);
+    session.turns(&[1]);
+    assert_eq!(session.last(), [1, UNLOCK, 1]);
+    session.make_move([1, GO, 0]);
     for _ in 0..2 {
-        sitting.make_move([1, TRYLOCK, 1]);
-        sitting.make_move([1, GO, 0]);
-        sitting.make_move([1, UNLOCK, 1]);
-        sitting.make_move([1, GO, 0]);
+        session.make_move([1, TRYLOCK, 1]);
+        session.make_move([1, GO, 0]);
+        session.make_move([1, UNLOCK, 1]);
+        session.make_move([1, GO, 0]);
     }
-    assert_eq!(sitting.progress(), [6, 0, 0]);
-    sitting.turns(&[1, 2]);
-    assert_eq!(sitting.last(), [2, CREATE, 3]);
-    assert_eq!(sitting.record.state().unwrap().life(1), Life::Ended);
+    assert_eq!(session.progress(), [6, 0, 0]);
+    session.turns(&[1, 2]);
+    assert_eq!(session.last(), [2, CREATE, 3]);
+    assert_eq!(session.record.state().unwrap().life(1), Life::Ended);
 }
 
 /// The record alone does not say what comes next: two journals, the same record, other calls.
@@ -398,9 +398,9 @@ fn same_record_other_journals() {
     let config = Config::new(2, 2, 1, 2);
     let scripts = [script(&[[YIELD, 0], [LOCK, 1]]), script(&[[YIELD, 0], [TRYLOCK, 1]])];
     let [mut one, mut two] = [1, 2].map(|p| {
-        let mut sitting = Sitting::new(config, &scripts);
-        sitting.turns(&[p, p]);
-        sitting
+        let mut session = ScriptedSession::new(config, &scripts);
+        session.turns(&[p, p]);
+        session
     });
     assert_eq!(one.record, two.record);
     assert_eq!((one.progress(), two.progress()), (vec![1, 0], vec![0, 1]));

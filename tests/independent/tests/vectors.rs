@@ -6,7 +6,7 @@ use std::io::Write;
 use std::path::{Path, PathBuf};
 use std::process::{Command, Stdio};
 
-const FOLDERS: [&str; 5] = ["pictures", "sessions", "turns", "classes", "calls"];
+const FOLDERS: [&str; 4] = ["pictures", "sessions", "turns", "classes"];
 
 fn stored() -> PathBuf {
     Path::new(env!("CARGO_MANIFEST_DIR")).join("../vectors")

@@ -3,14 +3,10 @@
 use mathlib.Core.Path.{sym, _∙_}
 use native.Mathlib.Omega.{arith}
 use borrow.Author.Needs.{needs}
-use Rattle.snapshot.specs.declared.answer.Ahead.the-variants.{Turns, NotWaiting, Refused}
-use Rattle.exports.proofs.Ahead.{read-number, read-most, picture-refused, told-is, refused-most}
+use Rattle.picture.specs.declared.answer.Ahead.the-variants.{Turns, NotWaiting, Refused}
+use Rattle.exports.proofs.Ahead.{read-number, read-most, picture-refused, number-of-is, refused-most}
 use Rattle.exports.proofs.humdayeg_ahead.Statement.{statement}
 use Rattle.exports.proofs.humdayeg_ahead.Tie as tie
-use Rattle.exports.proofs.humdayeg_ahead.Reads as reads
-use Rattle.exports.proofs.humdayeg_ahead.Lts as lts
-use Rattle.snapshot.proofs.ahead.Reads as ahead-reads
-use Rattle.snapshot.proofs.read.Reads as read-reads
 
 -- src/lib.rt:65:9
 read-requires : tie.Need-read-requires
@@ -52,21 +48,21 @@ returns-2 : tie.Need-returns-2
 returns-2 c =
     let a = c .before .before .before in
     let d = a .before .before in
-    told-is (d .before .before .before .args .picture .now) (λ i. omega (arith, d .before .before .shared-slice-known .given i)) (d .before .read .result) (d .before .read .ensures) (d .if1 .left) _ (Turns _) (sym (c .before .answer .given .1) ∙ a .ahead .ensures .0)
+    number-of-is (d .before .before .before .args .picture .now) (λ i. omega (arith, d .before .before .shared-slice-known .given i)) (d .before .read .result) (d .before .read .ensures) (d .if1 .left) _ (Turns _) (sym (c .before .answer .given .1) ∙ a .ahead .ensures .0)
 
 -- src/lib.rt:61:1
 returns-3 : tie.Need-returns-3
 returns-3 c =
     let a = c .before .before in
     let d = a .before .before in
-    told-is (d .before .before .before .args .picture .now) (λ i. omega (arith, d .before .before .shared-slice-known .given i)) (d .before .read .result) (d .before .read .ensures) (d .if1 .left) _ NotWaiting (sym (c .enum-told .given .1) ∙ a .ahead .ensures .0)
+    number-of-is (d .before .before .before .args .picture .now) (λ i. omega (arith, d .before .before .shared-slice-known .given i)) (d .before .read .result) (d .before .read .ensures) (d .if1 .left) _ NotWaiting (sym (c .enum-told .given .1) ∙ a .ahead .ensures .0)
 
 -- src/lib.rt:61:1
 returns-4 : tie.Need-returns-4
 returns-4 c =
     let a = c .before .before .before in
     let d = a .before .before in
-    told-is (d .before .before .before .args .picture .now) (λ i. omega (arith, d .before .before .shared-slice-known .given i)) (d .before .read .result) (d .before .read .ensures) (d .if1 .left) _ (Refused _) (sym (c .before .answer2 .given .1) ∙ a .ahead .ensures .0)
+    number-of-is (d .before .before .before .args .picture .now) (λ i. omega (arith, d .before .before .shared-slice-known .given i)) (d .before .read .result) (d .before .read .ensures) (d .if1 .left) _ (Refused _) (sym (c .before .answer2 .given .1) ∙ a .ahead .ensures .0)
 
 pub humdayeg-ahead-spec : {M : Type 1} → statement M
 humdayeg-ahead-spec =

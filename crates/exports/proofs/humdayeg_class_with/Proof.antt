@@ -13,7 +13,7 @@ returns c =
     let a = c .before .before .before .before .before .before .args in
     let s = c .before .start in
     let k = class-unbegun (table (a .p) (a .t) (a .m) (a .b) (a .stealing)) (a .scripts .now) (s .result) (s .ensures) (a .turns .now) (a .answers .now) (a .pictures .now) (c .if1 .taken) in
-    (k .number, (k .told, k .shown))
+    (k .number, (k .numbers, k .pictured))
 
 returns-2 : tie.Need-returns-2
 returns-2 c =
@@ -22,7 +22,7 @@ returns-2 c =
     let s = b .before .start in
     let d = c .before .before .before .before .before .class in
     let k = class-done (table (a .p) (a .t) (a .m) (a .b) (a .stealing)) (a .scripts .now) (s .result) (s .ensures) (a .turns .now) (a .answers .now) (a .pictures .now) (b .if1 .left) (replicate 12000 0) refl (d .result) _ _ (d .ensures .0) (d .ensures .1 .1 .0) (d .ensures .1 .1 .1) in
-    (k .number, (k .told, k .shown))
+    (k .number, (k .numbers, k .pictured))
 
 pub humdayeg-class-with-spec : {M : Type 1} → statement M
 humdayeg-class-with-spec =

@@ -4,9 +4,6 @@ use borrow.Author.Needs.{needs}
 use Rattle.exports.proofs.Ahead.{read-number}
 use Rattle.exports.proofs.humdayeg_read.Statement.{statement}
 use Rattle.exports.proofs.humdayeg_read.Tie as tie
-use Rattle.exports.proofs.humdayeg_read.Reads as reads
-use Rattle.exports.proofs.humdayeg_read.Lts as lts
-use Rattle.snapshot.proofs.read.Reads as read-reads
 
 -- src/lib.rt:56:9
 read-requires : tie.Need-read-requires

@@ -24,7 +24,7 @@ loop-less : tie.Need-loop-less Inv-loop μ-loop
 loop-less c = let k = c .before .before .before .before .before .before .before .before .before .before .before .before .before .before .before .before .before .before .before .before .before .before .before in omega (arith, k .loop-test .taken)
 
 loop-again : tie.Need-loop-again Inv-loop μ-loop
-loop-again c = let k = c .before .before .before .before .before .before .before .before .before .before .before .before .before .before .before .before .before .before .before .before .before .before .before in let v = k .before .loop .inv in let h = c .before .before .before .before .before .before .before .before .before .before .before .before .before .before .before .heard .kept in (omega (arith, k .loop-test .taken), omega (arith, v .1, h), omega (arith, v .2, h), omega (arith, v .3, h), omega (arith, v .4, h), omega (arith, v .5, h), omega (arith, v .6, h))
+loop-again c = let k = c .before .before .before .before .before .before .before .before .before .before .before .before .before .before .before .before .before .before .before .before .before .before .before in let v = k .before .loop .inv in let h = c .before .before .before .before .before .before .before .before .before .before .before .before .before .before .before .session-after .kept in (omega (arith, k .loop-test .taken), omega (arith, v .1, h), omega (arith, v .2, h), omega (arith, v .3, h), omega (arith, v .4, h), omega (arith, v .5, h), omega (arith, v .6, h))
 
 pub run-spec : {M : Type 1} → statement M
 run-spec =

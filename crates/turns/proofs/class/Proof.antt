@@ -11,7 +11,7 @@ returns : tie.Need-returns
 returns c =
     let a = c .before .before .before .before .before .before .before .args in
     let k = class-unfit (a .session) (a .journal .now) (a .scripts .now) (a .turns .now) (a .answers .now) (a .pictures .now) (c .before .unfit .result) (c .before .unfit .ensures) (c .if1 .taken) in
-    (k .answer, (k .journal, (k .told, k .shown)))
+    (k .answer, (k .journal, (k .numbers, k .pictured)))
 
 returns-2 : tie.Need-returns-2
 returns-2 c =
@@ -19,7 +19,7 @@ returns-2 c =
     let a = f .before .before .before .before .before .before .before .args in
     let test = c .before .test-journal in
     let k = class-strange (a .session) (a .journal .now) (a .scripts .now) (a .turns .now) (a .answers .now) (a .pictures .now) (sym (f .before .unfit .ensures) ∙ f .if1 .left) (test .result .refusal) (ap (λ (t : Tested). t .refusal) (test .ensures)) (c .if2 .taken) in
-    (k .answer, (k .journal, (k .told, k .shown)))
+    (k .answer, (k .journal, (k .numbers, k .pictured)))
 
 take-turns-requires : tie.Need-take-turns-requires
 take-turns-requires c κs =
@@ -60,7 +60,7 @@ returns-4 c =
     let fits = sym (f .before .unfit .ensures) ∙ f .if1 .left in
     let same = sym (ap (λ (t : Tested). t .refusal) (g .before .test-journal .ensures)) ∙ g .if2 .left in
     let k = class-unscripted (a .session) (a .journal .now) (a .scripts .now) (a .turns .now) (a .answers .now) (a .pictures .now) fits same (sym (c .before .scripts-ok .ensures) ∙ c .if3 .left) in
-    (k .answer, (k .journal, (k .told, k .shown)))
+    (k .answer, (k .journal, (k .numbers, k .pictured)))
 
 pub class-spec : {M : Type 1} → statement M
 class-spec =

@@ -13,7 +13,7 @@ use Rattle.session.specs.declared.Tested.{Tested}
 use Rattle.session.specs.Contract.{progress-in}
 use Rattle.session.proofs.Answers.{lent-passed}
 use Rattle.session.proofs.Undone.{state-right}
-use Rattle.turns.specs.Model.{turn-of}
+use Rattle.turns.specs.model.Turn.{turn-of}
 use Rattle.turns.proofs.Turned.{turn-is}
 use Rattle.turns.proofs.Answers.{tested-calls}
 use Rattle.turns.proofs.next_move.Statement.{statement}

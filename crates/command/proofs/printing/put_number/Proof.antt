@@ -1,6 +1,6 @@
 -- `command::printing::put_number` meets its contract.
 use borrow.Author.Tests.{lt-ltb, le-ltb}
-use Rattle.command.specs.Command.{decimal}
+use Rattle.command.specs.Printing.{decimal}
 use borrow.Author.Needs.{needs}
 use Rattle.command.proofs.printing.put_number.Statement.{statement}
 use Rattle.command.proofs.printing.put_number.Tie as tie

@@ -1,6 +1,6 @@
 -- `command::reading::command_of` meets its contract.
 use borrow.Author.Tests.{eq-eqb, ne-eqb}
-use Rattle.command.specs.Command.{command-of}
+use Rattle.command.specs.model.Reading.{command-of}
 use borrow.Author.Needs.{needs}
 use Rattle.command.proofs.reading.command_of.Statement.{statement}
 use Rattle.command.proofs.reading.command_of.Tie as tie

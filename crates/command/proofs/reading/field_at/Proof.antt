@@ -1,5 +1,5 @@
 -- `command::reading::field_at` meets its contract.
-use Rattle.command.specs.Reading.{field-at}
+use Rattle.command.specs.model.Reading.{field-at}
 use borrow.Author.Needs.{needs}
 use Rattle.command.proofs.reading.field_at.Statement.{statement}
 use Rattle.command.proofs.reading.field_at.Tie as tie

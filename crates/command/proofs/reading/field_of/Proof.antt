@@ -1,6 +1,6 @@
 -- `command::reading::field_of` meets its contract.
 use borrow.Author.Tests.{eq-eqb, ne-eqb}
-use Rattle.command.specs.Reading.{field-of}
+use Rattle.command.specs.model.Reading.{field-of}
 use borrow.Author.Needs.{needs}
 use Rattle.command.proofs.reading.field_of.Statement.{statement}
 use Rattle.command.proofs.reading.field_of.Tie as tie

@@ -1,5 +1,5 @@
 -- `command::reading::start` meets its contract.
-use Rattle.command.specs.Reading.{start-from}
+use Rattle.command.specs.model.Reading.{start-from}
 use Rattle.command.proofs.Read.{start-read}
 use borrow.Author.Needs.{needs}
 use Rattle.command.proofs.reading.start.Statement.{statement}

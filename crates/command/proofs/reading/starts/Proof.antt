@@ -2,7 +2,7 @@
 use Prim.Native.Nat.{_≤_, _-_}
 use mathlib.Core.Path.{_≡_, refl, sym, _∙_}
 use lib.ListN.{length, drop}
-use Rattle.command.specs.Reading.{starts}
+use Rattle.command.specs.model.Reading.{starts}
 use Rattle.command.proofs.Read.{starts-short, starts-differ, starts-next, starts-all}
 use borrow.Author.Needs.{needs}
 use Rattle.command.proofs.reading.starts.Statement.{statement}

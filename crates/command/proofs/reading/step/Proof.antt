@@ -1,5 +1,5 @@
 -- `command::reading::step` meets its contract.
-use Rattle.command.specs.Reading.{move-from}
+use Rattle.command.specs.model.Reading.{move-from}
 use Rattle.command.proofs.Read.{move-read}
 use borrow.Author.Needs.{needs}
 use Rattle.command.proofs.reading.step.Statement.{statement}

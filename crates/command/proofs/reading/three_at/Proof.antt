@@ -1,5 +1,5 @@
 -- `command::reading::three_at` meets its contract.
-use Rattle.command.specs.Reading.{three-from}
+use Rattle.command.specs.model.Reading.{three-from}
 use Rattle.command.proofs.Read.{three-read}
 use borrow.Author.Needs.{needs}
 use Rattle.command.proofs.reading.three_at.Statement.{statement}

@@ -2,7 +2,7 @@
 -- Assumes nothing.
 use borrow.Author.Needs.{needs}
 use lib.ListN.{getD}
-use Rattle.rules.specs.Bytes.{thread-in-bytes}
+use Rattle.rules.specs.model.Bytes.{thread-in-bytes}
 use Rattle.rules.proofs.Laid.{bytes-small}
 use Rattle.rules.proofs.Chains.{check-is-rule}
 use Rattle.rules.proofs.chain.chains_ok.Statement.{statement}

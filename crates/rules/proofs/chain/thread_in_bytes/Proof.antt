@@ -5,7 +5,7 @@ use native.Mathlib.Omega.{arith}
 use borrow.Author.Tests.{leb-true}
 use borrow.Author.Needs.{needs}
 use Rattle.reference.proofs.Tests.{both-left}
-use Rattle.rules.specs.Bytes.{thread-in-bytes}
+use Rattle.rules.specs.model.Bytes.{thread-in-bytes}
 use Rattle.rules.proofs.chain.thread_in_bytes.Statement.{statement}
 use Rattle.rules.proofs.chain.thread_in_bytes.Tie as tie
 

@@ -8,8 +8,8 @@ use mathlib.Core.Path.{_≡_, refl, sym, ap, _∙_}
 use native.Mathlib.Omega.{arith}
 use borrow.Author.Needs.{needs}
 use Rattle.state.specs.Rules.{placed-in}
-use Rattle.rules.specs.Walk.{has-bit, walk-from}
-use Rattle.rules.specs.Bytes.{thread-in-bytes}
+use Rattle.rules.specs.model.Walk.{has-bit, walk-from}
+use Rattle.rules.specs.model.Bytes.{thread-in-bytes}
 use Rattle.rules.proofs.Steps.{walk-none, walk-end, walk-stop, walk-on}
 use Rattle.rules.proofs.chain.walk.Statement.{statement}
 use Rattle.rules.proofs.chain.walk.Tie as tie

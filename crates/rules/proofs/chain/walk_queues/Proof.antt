@@ -5,8 +5,8 @@ use mathlib.Core.Path.{_≡_}
 use native.Mathlib.Omega.{arith}
 use borrow.Author.Needs.{needs}
 use lib.ListN.{getD}
-use Rattle.rules.specs.Bytes.{thread-in-bytes}
-use Rattle.rules.specs.Walk.{walked, walk-queues}
+use Rattle.rules.specs.model.Bytes.{thread-in-bytes}
+use Rattle.rules.specs.model.Walk.{walked, walk-queues}
 use Rattle.rules.proofs.Steps.{queues-none, queues-next}
 use Rattle.rules.proofs.chain.walk_queues.Statement.{statement}
 use Rattle.rules.proofs.chain.walk_queues.Tie as tie

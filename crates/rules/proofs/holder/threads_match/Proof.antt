@@ -8,7 +8,7 @@ use borrow.Author.Needs.{needs}
 use lib.ListN.{length}
 use Rattle.reference.specs.Lists.{each}
 use Rattle.state.specs.Record.{zero-thread, zero-processor, thread-in, processor-in}
-use Rattle.rules.specs.Holder.{thread-held}
+use Rattle.rules.specs.model.Holder.{thread-held}
 use Rattle.reference.proofs.Each.{each-none, each-next, each-end}
 use Rattle.rules.proofs.Past.{read-past}
 use Rattle.rules.proofs.holder.threads_match.Statement.{statement}

@@ -1,12 +1,10 @@
 -- `session::same::same_state` meets its contract.
 -- Assumes nothing.
 use mathlib.Core.Path.{sym, ap, _∙_}
-use native.Mathlib.Omega.{arith}
-use lib.ListN.{length, replicate, length-replicate}
 use borrow.Author.Needs.{needs}
 use Rattle.state.specs.declared.State.{State}
 use Rattle.state.proofs.Sized.{sized}
-use Rattle.snapshot.specs.Snapshot.{written}
+use Rattle.picture.specs.Picture.{written}
 use Rattle.session.proofs.Pictures.{blank, blank-long, same-picture}
 use Rattle.session.proofs.same.same_state.Statement.{statement}
 use Rattle.session.proofs.same.same_state.Tie as tie

@@ -1,7 +1,7 @@
 -- `state::State::start` meets its contract.
 use borrow.Author.Needs.{needs}
 use Rattle.state.specs.Record.{zero-state}
-use Rattle.state.specs.Model.{start-record}
+use Rattle.state.specs.model.Access.{start-record}
 use Rattle.state.proofs.State.start.Statement.{statement}
 use Rattle.state.proofs.State.start.Tie as tie
 

@@ -9,7 +9,7 @@ use lib.ListN.{length, take, set, replicate, length-set}
 use lib.Seq.{take-all}
 use Rattle.state.specs.declared.Thread.{Thread}
 use Rattle.state.specs.Record.{zero-thread, thread-in}
-use Rattle.state.specs.Model.{bytes-of, with-thread}
+use Rattle.state.specs.model.Access.{bytes-of, with-thread}
 use Rattle.state.proofs.Bytes.{bytes-zero, bytes-set, bytes-more, bytes-length}
 use Rattle.state.proofs.queues.bytes_of.Statement.{statement}
 use Rattle.state.proofs.queues.bytes_of.Tie as tie

@@ -5,7 +5,7 @@ use mathlib.Core.Path.{_≡_, sym, _∙_}
 use native.Mathlib.Omega.{arith}
 use borrow.Author.Needs.{needs}
 use lib.ListN.{getD}
-use Rattle.state.specs.Model.{last-in}
+use Rattle.state.specs.model.Access.{last-in}
 use Rattle.state.proofs.Bytes.{last-none, last-stop, last-on}
 use Rattle.state.proofs.queues.last_in.Statement.{statement}
 use Rattle.state.proofs.queues.last_in.Tie as tie

@@ -6,7 +6,7 @@ use native.Mathlib.Omega.{arith}
 use lib.ListN.{length, take, length-set}
 use borrow.Author.Needs.{needs}
 use Rattle.reference.specs.Lists.{tabulate}
-use Rattle.state.specs.Model.{thread-from}
+use Rattle.state.specs.model.Access.{thread-from}
 use Rattle.state.proofs.Fill.{fill-none, fill-more, fill-all}
 use Rattle.state.proofs.queues.threads_of.Statement.{statement}
 use Rattle.state.proofs.queues.threads_of.Tie as tie

@@ -5,7 +5,7 @@ use native.Mathlib.Omega.{arith}
 use lib.ListN.{length, take, length-set}
 use borrow.Author.Needs.{needs}
 use Rattle.reference.specs.Lists.{tabulate}
-use Rattle.state.specs.Model.{first-first}
+use Rattle.state.specs.model.Access.{first-first}
 use Rattle.state.proofs.Fill.{fill-none, fill-more, fill-all}
 use Rattle.state.proofs.start.first_firsts.Statement.{statement}
 use Rattle.state.proofs.start.first_firsts.Tie as tie

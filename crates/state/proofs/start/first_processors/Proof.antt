@@ -6,7 +6,7 @@ use native.Mathlib.Omega.{arith}
 use lib.ListN.{length, take, length-set}
 use borrow.Author.Needs.{needs}
 use Rattle.reference.specs.Lists.{tabulate}
-use Rattle.state.specs.Model.{first-processor}
+use Rattle.state.specs.model.Access.{first-processor}
 use Rattle.state.proofs.Begun.{processor-first}
 use Rattle.state.proofs.Fill.{fill-none, fill-more, fill-all}
 use Rattle.state.proofs.start.first_processors.Statement.{statement}

@@ -5,7 +5,7 @@ use native.Mathlib.Omega.{arith}
 use lib.ListN.{length, take, length-set}
 use borrow.Author.Needs.{needs}
 use Rattle.reference.specs.Lists.{tabulate}
-use Rattle.state.specs.Model.{first-thread}
+use Rattle.state.specs.model.Access.{first-thread}
 use Rattle.state.proofs.Fill.{fill-none, fill-more, fill-all}
 use Rattle.state.proofs.start.first_threads.Statement.{statement}
 use Rattle.state.proofs.start.first_threads.Tie as tie

@@ -1,6 +1,6 @@
 -- `step::call::create` meets its contract.
 -- Assumes nothing.
-use Rattle.step.specs.Model.{create-call}
+use Rattle.step.specs.model.Moves.{create-call}
 use borrow.Author.Needs.{needs}
 use Rattle.step.proofs.call.create.Statement.{statement}
 use Rattle.step.proofs.call.create.Tie as tie

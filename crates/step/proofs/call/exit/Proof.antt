@@ -1,6 +1,6 @@
 -- `step::call::exit` meets its contract.
 -- Assumes nothing.
-use Rattle.step.specs.Model.{exit-call}
+use Rattle.step.specs.model.Moves.{exit-call}
 use borrow.Author.Needs.{needs}
 use Rattle.step.proofs.call.exit.Statement.{statement}
 use Rattle.step.proofs.call.exit.Tie as tie

@@ -1,6 +1,6 @@
 -- `step::call::lock` meets its contract.
 -- Assumes nothing.
-use Rattle.step.specs.Model.{lock-call}
+use Rattle.step.specs.model.Moves.{lock-call}
 use borrow.Author.Needs.{needs}
 use Rattle.step.proofs.call.lock.Statement.{statement}
 use Rattle.step.proofs.call.lock.Tie as tie

@@ -1,6 +1,6 @@
 -- `step::call::trylock` meets its contract.
 -- Assumes nothing.
-use Rattle.step.specs.Model.{trylock-call}
+use Rattle.step.specs.model.Moves.{trylock-call}
 use borrow.Author.Needs.{needs}
 use Rattle.step.proofs.call.trylock.Statement.{statement}
 use Rattle.step.proofs.call.trylock.Tie as tie

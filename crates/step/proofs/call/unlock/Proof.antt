@@ -1,6 +1,6 @@
 -- `step::call::unlock` meets its contract.
 -- Assumes nothing.
-use Rattle.step.specs.Model.{unlock-call}
+use Rattle.step.specs.model.Moves.{unlock-call}
 use borrow.Author.Needs.{needs}
 use Rattle.step.proofs.call.unlock.Statement.{statement}
 use Rattle.step.proofs.call.unlock.Tie as tie

@@ -1,13 +1,11 @@
 -- `step::cause::call_refusal` meets its contract.
 -- Assumes nothing.
 use borrow.Author.Tests.{eq-eqb, ne-eqb, le-leb, lt-leb}
-use Rattle.step.specs.Model.{call-refusal}
 use borrow.Author.Needs.{needs}
 use Rattle.step.proofs.cause.call_refusal.Statement.{statement}
 use Rattle.step.proofs.cause.call_refusal.Tie as tie
 
 returns : tie.Need-returns
-unfolding call-refusal
 returns c =
     rw (
       ← c .before .operand-fits .ensures,
@@ -15,7 +13,6 @@ returns c =
     )
 
 returns-2 : tie.Need-returns-2
-unfolding call-refusal
 returns-2 c =
     rw (
       ← c .before .before .before .operand-fits .ensures,
@@ -24,7 +21,6 @@ returns-2 c =
     )
 
 returns-3 : tie.Need-returns-3
-unfolding call-refusal
 returns-3 c =
     rw (
       ← c .before .before .before .before .before .operand-fits .ensures,
@@ -34,7 +30,6 @@ returns-3 c =
     )
 
 returns-4 : tie.Need-returns-4
-unfolding call-refusal
 returns-4 c =
     rw (
       ← c .before .before .before .before .before .before .before .before .operand-fits .ensures,
@@ -45,7 +40,6 @@ returns-4 c =
     )
 
 returns-5 : tie.Need-returns-5
-unfolding call-refusal
 returns-5 c =
     let fourth = c .before in
     let third = fourth .before .before .before in

@@ -1,7 +1,7 @@
 -- `step::cause::cause` meets its contract.
 -- Assumes nothing.
-use borrow.Author.Tests.{eq-eqb, ne-eqb}
-use Rattle.step.specs.Model.{cause-seen}
+use borrow.Author.Tests.{ne-eqb}
+use Rattle.step.specs.model.Moves.{cause-seen}
 use borrow.Author.Needs.{needs}
 use Rattle.step.proofs.cause.cause.Statement.{statement}
 use Rattle.step.proofs.cause.cause.Tie as tie
@@ -20,7 +20,7 @@ returns-2 c =
     rw (
       ← c .before .before .before .in-range .ensures,
       c .before .before .if1 .left,
-      eq-eqb _ _ (c .before .if2 .taken),
+      c .before .if2 .taken,
       c .go-refusal .ensures,
     )
 

@@ -1,16 +1,13 @@
 -- `step::cause::go_refusal` meets its contract.
 -- Assumes nothing.
 use borrow.Author.Tests.{eq-eqb, ne-eqb, le-leb, lt-leb}
-use Rattle.step.specs.Model.{go-refusal}
 use Rattle.step.proofs.cause.go_refusal.Statement.{statement}
 use Rattle.step.proofs.cause.go_refusal.Tie as tie
 
 returns : tie.Need-returns
-unfolding go-refusal
 returns c = rw (ne-eqb _ _ (c .if1 .taken))
 
 returns-2 : tie.Need-returns-2
-unfolding go-refusal
 returns-2 c =
     rw (
       eq-eqb _ _ (c .before .before .if1 .left),
@@ -18,7 +15,6 @@ returns-2 c =
     )
 
 returns-3 : tie.Need-returns-3
-unfolding go-refusal
 returns-3 c =
     rw (
       eq-eqb _ _ (c .before .before .before .before .if1 .left),
@@ -27,7 +23,6 @@ returns-3 c =
     )
 
 returns-4 : tie.Need-returns-4
-unfolding go-refusal
 returns-4 c =
     rw (
       eq-eqb _ _ (c .before .before .before .before .if1 .left),

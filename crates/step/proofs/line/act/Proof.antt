@@ -4,7 +4,7 @@ use Prim.Native.Nat.{ℕ}
 use mathlib.Core.Path.{refl, ap}
 use Rattle.step.specs.declared.View.{View}
 use Rattle.step.specs.declared.Effect.{Effect}
-use Rattle.step.specs.Model.{act-effect, acts, go-call, act-outcome, line-outcome}
+use Rattle.step.specs.model.Moves.{act-effect, acts, go-call, act-outcome, line-outcome}
 use Rattle.step.proofs.Match.{rest, outside}
 use borrow.Author.Needs.{needs}
 use Rattle.step.proofs.line.act.Statement.{statement}
@@ -24,7 +24,7 @@ returns-3 c = rw (c .before .before .match .keys3, c .keeps3 .ensures, c .before
 
 returns-4 : tie.Need-returns-4
 unfolding act-effect act-outcome
-returns-4 c = rw (c .before .before .match .keys4, c .keeps4 .ensures, c .before .give-way .ensures)
+returns-4 c = rw (c .before .before .match .keys4, c .keeps4 .ensures, c .before .yield-now .ensures)
 
 returns-5 : tie.Need-returns-5
 unfolding act-effect act-outcome

@@ -10,7 +10,7 @@ use borrow.Author.Tests.{ne-eqb}
 use Rattle.step.specs.declared.View.{View}
 use Rattle.step.specs.declared.Effect.{Effect}
 use Rattle.step.specs.declared.Outcome.{Outcome}
-use Rattle.step.specs.Model.{nothing-there, outcome, writers, line-outcome, line-effect, effects, stay}
+use Rattle.step.specs.model.Moves.{nothing-there, outcome, writers, line-outcome, line-effect, effects, stay}
 use Rattle.step.proofs.Match.{rest, other}
 use borrow.Author.Needs.{needs}
 use Rattle.step.proofs.line.line.Statement.{statement}

@@ -1,7 +1,7 @@
 -- `step::lock::l1` meets its contract.
 -- Assumes nothing.
 use borrow.Author.Tests.{eq-eqb, ne-eqb}
-use Rattle.step.specs.Model.{at-L1}
+use Rattle.step.specs.model.Moves.{at-L1}
 use borrow.Author.Needs.{needs}
 use Rattle.step.proofs.lock.l1.Statement.{statement}
 use Rattle.step.proofs.lock.l1.Tie as tie

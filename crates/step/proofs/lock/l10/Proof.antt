@@ -1,6 +1,6 @@
 -- `step::lock::l10` meets its contract.
 -- Assumes nothing.
-use Rattle.step.specs.Model.{at-L10}
+use Rattle.step.specs.model.Moves.{at-L10}
 use borrow.Author.Needs.{needs}
 use Rattle.step.proofs.lock.l10.Statement.{statement}
 use Rattle.step.proofs.lock.l10.Tie as tie

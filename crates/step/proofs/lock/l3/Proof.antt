@@ -1,6 +1,6 @@
 -- `step::lock::l3` meets its contract.
 -- Assumes nothing.
-use Rattle.step.specs.Model.{at-L3}
+use Rattle.step.specs.model.Moves.{at-L3}
 use borrow.Author.Needs.{needs}
 use Rattle.step.proofs.lock.l3.Statement.{statement}
 use Rattle.step.proofs.lock.l3.Tie as tie

@@ -1,6 +1,6 @@
 -- `step::lock::l4` meets its contract.
 -- Assumes nothing.
-use Rattle.step.specs.Model.{at-L4}
+use Rattle.step.specs.model.Moves.{at-L4}
 use borrow.Author.Needs.{needs}
 use Rattle.step.proofs.lock.l4.Statement.{statement}
 use Rattle.step.proofs.lock.l4.Tie as tie

@@ -1,7 +1,7 @@
 -- `step::lock::l6` meets its contract.
 -- Assumes nothing.
 use borrow.Author.Tests.{eq-eqb, ne-eqb}
-use Rattle.step.specs.Model.{at-L6}
+use Rattle.step.specs.model.Moves.{at-L6}
 use borrow.Author.Needs.{needs}
 use Rattle.step.proofs.lock.l6.Statement.{statement}
 use Rattle.step.proofs.lock.l6.Tie as tie

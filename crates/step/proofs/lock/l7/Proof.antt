@@ -1,6 +1,6 @@
 -- `step::lock::l7` meets its contract.
 -- Assumes nothing.
-use Rattle.step.specs.Model.{at-L7}
+use Rattle.step.specs.model.Moves.{at-L7}
 use borrow.Author.Needs.{needs}
 use Rattle.step.proofs.lock.l7.Statement.{statement}
 use Rattle.step.proofs.lock.l7.Tie as tie

@@ -1,6 +1,6 @@
 -- `step::lock::l8` meets its contract.
 -- Assumes nothing.
-use Rattle.step.specs.Model.{at-L8}
+use Rattle.step.specs.model.Moves.{at-L8}
 use borrow.Author.Needs.{needs}
 use Rattle.step.proofs.lock.l8.Statement.{statement}
 use Rattle.step.proofs.lock.l8.Tie as tie

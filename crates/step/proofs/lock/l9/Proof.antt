@@ -1,6 +1,6 @@
 -- `step::lock::l9` meets its contract.
 -- Assumes nothing.
-use Rattle.step.specs.Model.{at-L9}
+use Rattle.step.specs.model.Moves.{at-L9}
 use borrow.Author.Needs.{needs}
 use Rattle.step.proofs.lock.l9.Statement.{statement}
 use Rattle.step.proofs.lock.l9.Tie as tie

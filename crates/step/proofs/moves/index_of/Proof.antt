@@ -3,7 +3,7 @@
 use mathlib.Core.Path.{sym, ap, _∙_}
 use borrow.Author.Needs.{needs}
 use Rattle.state.proofs.Branch.{if-some}
-use Rattle.step.specs.Model.{on-ring}
+use Rattle.step.specs.model.Moves.{on-ring}
 use Rattle.step.proofs.moves.index_of.Statement.{statement}
 use Rattle.step.proofs.moves.index_of.Tie as tie
 

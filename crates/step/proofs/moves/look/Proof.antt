@@ -7,25 +7,16 @@ use Rattle.step.proofs.moves.look.Tie as tie
 returns : tie.Need-returns
 returns c =
     rw (
-      c .found2 .ensures,
-      c .before .found .ensures,
-      c .before .before .next-in2 .ensures,
-      c .before .before .before .get2 .ensures,
-      c .before .before .before .before .index-of .ensures,
-      c .before .before .before .before .before .next-in .ensures,
-      c .before .before .before .before .before .before .get .ensures,
-      c .before .before .before .before .before .before .before .ready-queues .ensures,
+      c .take2 .ensures,
+      c .before .index-of .ensures,
+      c .before .before .take .ensures,
+      c .before .before .before .ready-queues .ensures,
     )
 
 pub look-spec : {M : Type 1} → statement M
 look-spec =
     tie.close
     (tie.spec
-    (λ c κs. search needs)
-    (λ c κs. search needs)
-    (λ c κs. search needs)
-    (λ c κs. search needs)
-    (λ c. search needs)
     (λ c κs. search needs)
     (λ c κs. search needs)
     (λ c κs. search needs)

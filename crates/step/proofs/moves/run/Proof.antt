@@ -13,12 +13,12 @@ use Rattle.state.specs.declared.Processor.{Processor}
 use Rattle.state.specs.declared.Mutex.{Mutex}
 use Rattle.state.specs.declared.State.{State}
 use Rattle.state.specs.Record.{zero-processor, zero-mutex}
-use Rattle.state.specs.Model.{thread-from, bytes-of}
+use Rattle.state.specs.model.Access.{thread-from, bytes-of}
 use Rattle.state.proofs.Bytes.{threads-back}
 use Rattle.state.proofs.Past.{read-past, write-past}
 use Rattle.state.proofs.Sized.{sized}
-use Rattle.step.specs.Model.{gathered-of, ran}
-use Rattle.step.proofs.InPlace.{Running, Reading, running-start, running-stop, running-broken, unwritten, running-more, running-end, bytes-size, calls-size}
+use Rattle.step.specs.model.Moves.{gathered-of, ran}
+use Rattle.step.proofs.InPlace.{Running, Reading, running-start, running-stop, unwritten, running-more, running-end, bytes-size, calls-size}
 use Rattle.step.proofs.moves.run.Statement.{statement}
 use Rattle.step.proofs.moves.run.Tie as tie
 
@@ -50,11 +50,11 @@ loop-holds c =
 abbrev stage : {A : Type 0} {B : A → Type 0} → ((a : A) → B a) → Type 0
 stage {A} f = A
 
-cause-ready : tie.Need-cause-requires Inv-loop μ-loop
-cause-ready c κs = search needs
+decide-ready : tie.Need-decide-requires Inv-loop μ-loop
+decide-ready c κs = search needs
 
--- before the cause is asked for: the move, as it was read
-abbrev read : (c : stage cause-ready) →
+-- before the move is decided: the move, as it was read
+abbrev read : (c : stage decide-ready) →
     let t = c .before .before .before .before .before .before .before .before .before .before .before .before .before .before .before .before .before .before .before .before .before .before .before .before .before in
     Reading (t .args .s) (t .args .moves .now) (t .args .calls .now)
 read c =
@@ -106,54 +106,44 @@ gathered here =
 
 returns : tie.Need-returns Inv-loop μ-loop
 returns c =
-    let cause = c .before .before .before in
-    let here = read (cause .before) in
-    let stop = running-stop here (cause .cause .result) (cause .cause .ensures) (c .before .before .if3 .taken) in
-    (c .ended .ensures ∙ ap (ran (cause .cause .result) (here .made)) (gathered here) ∙ stop .0, stop .1)
-
-returns-2 : tie.Need-returns-2 Inv-loop μ-loop
-returns-2 c =
-    let act = c .before .before .before in
-    let cause = act .before .before in
-    let here = read (cause .before) in
-    let stop = running-broken here (cause .cause .result) (cause .cause .ensures) (act .before .if3 .left) (act .act .result) (act .act .ensures) (c .before .before .if4 .taken) in
-    (c .ended2 .ensures ∙ ap (ran 15 (here .made)) (gathered here) ∙ stop .0, stop .1)
+    let decide = c .before .before .before in
+    let here = read (decide .before) in
+    let stop = running-stop here (decide .decide .result) (decide .decide .ensures) (c .before .before .if3 .taken) in
+    (c .ended .ensures ∙ ap (ran (decide .decide .result .refusal) (here .made)) (gathered here) ∙ stop .0, stop .1)
 
 loop-again : tie.Need-loop-again Inv-loop μ-loop
 loop-again c =
     let carried = c .before .before .before .before .before .carry in
     let noting = c .before .before .before .before .before .before .before .before .before .before .before .note-move in
-    let whole = c .before .before .before .before .before .before .before .before .before .before .before .before .before in
-    let act = whole .before in
-    let cause = act .before .before in
-    let here = read (cause .before) in
-    let e = act .act .result .effect in
-    let p = getD (c .before .before .before .before .before .before .before .before .before .before .before .before .before .before .before .before .before .before .before .before .before .before .before .before .before .before .before .before .before .before .before .before .before .before .before .before .before .before .before .before .before .before .args .moves .now) (3 * here .made) 0 in
-    let ps : c .before .if7 .processors ≡ set (here .processors) p (e .proc) =
+    let accepted = c .before .before .before .before .before .before .before .before .before .before .before .before .before in
+    let decide = accepted .before in
+    let here = read (decide .before) in
+    let e = decide .decide .result .effect in
+    let p = getD (c .before .before .before .before .before .before .before .before .before .before .before .before .before .before .before .before .before .before .before .before .before .before .before .before .before .before .before .before .before .before .before .before .before .before .before .before .before .before .before .before .args .moves .now) (3 * here .made) 0 in
+    let ps : c .before .if6 .processors ≡ set (here .processors) p (e .proc) =
     either (λ w. w .3 ∙ ap (set (here .processors) p) (w .2 .ensures))
-    (λ w. w .1 ∙ write-past (here .processors) 9 p (here .running .processors-size) (w .0 .left) (e .proc)) (c .before .if7 .came)
+    (λ w. w .1 ∙ write-past (here .processors) 9 p (here .running .processors-size) (w .0 .left) (e .proc)) (c .before .if6 .came)
     in
-    let same = unwritten here (cause .cause .result) (cause .cause .ensures) (act .before .if3 .left) (act .act .result) (act .act .ensures) in
-    let xs : c .before .before .if5 .mutexes ≡ set (here .mutexes) (here .target) (e .mutex) =
+    let same = unwritten here (decide .decide .result) (decide .decide .ensures) (accepted .if3 .left) in
+    let xs : c .before .before .if4 .mutexes ≡ set (here .mutexes) (here .target) (e .mutex) =
     either (λ w. w .4 ∙ ap (set (here .mutexes) (here .target)) (w .3 .ensures))
     (either (λ w. w .2 ∙ write-past (here .mutexes) 9 (here .target) (here .running .mutexes-size) (w .1 .left) (e .mutex)) (λ w. w .1 ∙ same (w .0 .left)))
-    (c .before .before .if5 .came)
+    (c .before .before .if4 .came)
     in
-    let at = running-more here (cause .cause .result) (cause .cause .ensures) (act .before .if3 .left) (act .act .result) (act .act .ensures)
-    in (
+    let at = running-more here (decide .decide .result) (decide .decide .ensures) (accepted .if3 .left) in (
       omega (arith, here .more),
-      at (whole .if4 .left) _ (noting .last .0) (carried .last .0) (carried .last .1 .0) (c .before .if7 .processors) (c .before .before .if5 .mutexes)
+      at _ (noting .last .0) (carried .last .0) (carried .last .1 .0) (c .before .if6 .processors) (c .before .before .if4 .mutexes)
           (rw (c .up-wide .ensures)) (noting .ensures) (carried .ensures .0) (carried .ensures .1) ps xs,
     )
 
-returns-3 : tie.Need-returns-3 Inv-loop μ-loop
-returns-3 c =
+returns-2 : tie.Need-returns-2 Inv-loop μ-loop
+returns-2 c =
     let t = c .before .before .before .before .before .before .before .before .before .before .before .before .before .before in
     let l = c .before .before .before .loop in
     let g = l .inv .1 in
     let end = running-end (t .args .s) (t .args .moves .now) (t .args .calls .now) (l .made) (l .s) (l .calls) (l .firsts) (l .bytes) (l .processors) (l .mutexes) g (omega arith)
     in (
-      c .ended3 .ensures ∙
+      c .ended2 .ensures ∙
           ap (ran 0 (l .made)) (back (l .s) (l .firsts) (l .bytes) (l .processors) (l .mutexes) (g .threads) (g .bytes) (g .threads-size)) ∙
           end .0,
       end .1,
@@ -189,19 +179,14 @@ run-spec =
     (λ c κs. search needs)
     (λ c κs. search needs)
     (λ c. omega (arith, bytes-size _ _ _ _ _ _ _ _ _ _ (c .before .before .before .before .before .before .before .before .before .before .before .before .before .before .loop .inv .1)))
-    cause-ready
+    decide-ready
     (λ c. omega (arith, bytes-size _ _ _ _ _ _ _ _ _ _ (c .before .before .before .before .before .before .before .before .before .before .before .before .before .before .before .before .before .loop .inv .1)))
     (λ c κs. search needs)
     (λ c. calls-size _ _ _ _ _ _ _ _ _ _ (c .before .before .before .before .before .before .before .before .before .before .before .before .before .before .before .before .before .before .loop .inv .1))
     returns
     (λ c κs. search needs)
-    (λ c. omega (arith, bytes-size _ _ _ _ _ _ _ _ _ _ (c .before .before .before .before .before .before .before .before .before .before .before .before .before .before .before .before .before .before .before .loop .inv .1)))
-    (λ c κs. search needs)
-    (λ c. calls-size _ _ _ _ _ _ _ _ _ _ (c .before .before .before .before .before .before .before .before .before .before .before .before .before .before .before .before .before .before .before .before .loop .inv .1))
-    returns-2
-    (λ c κs. search needs)
-    (λ c. omega (arith, c .before .before .before .before .before .before .before .before .before .before .before .before .before .before .before .before .before .before .before .before .before .before .before .before .loop .inv .1 .firsts-size))
-    (λ c. omega (arith, bytes-size _ _ _ _ _ _ _ _ _ _ (c .before .before .before .before .before .before .before .before .before .before .before .before .before .before .before .before .before .before .before .before .before .before .before .before .before .loop .inv .1)))
+    (λ c. omega (arith, c .before .before .before .before .before .before .before .before .before .before .before .before .before .before .before .before .before .before .before .before .before .before .loop .inv .1 .firsts-size))
+    (λ c. omega (arith, bytes-size _ _ _ _ _ _ _ _ _ _ (c .before .before .before .before .before .before .before .before .before .before .before .before .before .before .before .before .before .before .before .before .before .before .before .loop .inv .1)))
     (λ c κs. search needs)
     (λ c κs. search needs)
     (λ c. search needs)
@@ -210,10 +195,10 @@ run-spec =
     (λ c. search needs)
     (λ c. search needs)
     (λ c κs. search needs)
-    (λ c. let l = c .before .before .before .before .before .before .before .before .before .before .before .before .before .before .before .before .before .before .before .before .before .before .before .before .before .before .before .before .before .before in omega (arith, l .loop-test .taken, l .before .before .before .before .before .before .before .before .before .before .before .before .good .1 .0))
-    (λ c. let l = c .before .before .before .before .before .before .before .before .before .before .before .before .before .before .before .before .before .before .before .before .before .before .before .before .before .before .before .before .before .before in omega (arith, l .loop-test .taken))
+    (λ c. let l = c .before .before .before .before .before .before .before .before .before .before .before .before .before .before .before .before .before .before .before .before .before .before .before .before .before .before .before .before in omega (arith, l .loop-test .taken, l .before .before .before .before .before .before .before .before .before .before .before .before .good .1 .0))
+    (λ c. let l = c .before .before .before .before .before .before .before .before .before .before .before .before .before .before .before .before .before .before .before .before .before .before .before .before .before .before .before .before in omega (arith, l .loop-test .taken))
     loop-again
     (λ c. omega (arith, bytes-size _ _ _ _ _ _ _ _ _ _ (c .before .before .loop .inv .1)))
     (λ c κs. search needs)
     (λ c. calls-size _ _ _ _ _ _ _ _ _ _ (c .before .before .before .loop .inv .1))
-    returns-3)
+    returns-2)

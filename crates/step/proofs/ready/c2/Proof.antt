@@ -1,6 +1,6 @@
 -- `step::ready::c2` meets its contract.
 -- Assumes nothing.
-use Rattle.step.specs.Model.{at-C2}
+use Rattle.step.specs.model.Moves.{at-C2}
 use borrow.Author.Needs.{needs}
 use Rattle.step.proofs.ready.c2.Statement.{statement}
 use Rattle.step.proofs.ready.c2.Tie as tie

@@ -1,6 +1,6 @@
 -- `step::ready::ci2` meets its contract.
 -- Assumes nothing.
-use Rattle.step.specs.Model.{at-CI2}
+use Rattle.step.specs.model.Moves.{at-CI2}
 use borrow.Author.Needs.{needs}
 use Rattle.step.proofs.ready.ci2.Statement.{statement}
 use Rattle.step.proofs.ready.ci2.Tie as tie

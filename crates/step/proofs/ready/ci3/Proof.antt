@@ -1,6 +1,6 @@
 -- `step::ready::ci3` meets its contract.
 -- Assumes nothing.
-use Rattle.step.specs.Model.{at-CI3}
+use Rattle.step.specs.model.Moves.{at-CI3}
 use borrow.Author.Needs.{needs}
 use Rattle.step.proofs.ready.ci3.Statement.{statement}
 use Rattle.step.proofs.ready.ci3.Tie as tie

@@ -1,6 +1,6 @@
 -- `step::ready::y1` meets its contract.
 -- Assumes nothing.
-use Rattle.step.specs.Model.{at-Y1}
+use Rattle.step.specs.model.Moves.{at-Y1}
 use borrow.Author.Needs.{needs}
 use Rattle.step.proofs.ready.y1.Statement.{statement}
 use Rattle.step.proofs.ready.y1.Tie as tie

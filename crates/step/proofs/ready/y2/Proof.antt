@@ -1,6 +1,6 @@
 -- `step::ready::y2` meets its contract.
 -- Assumes nothing.
-use Rattle.step.specs.Model.{at-Y2}
+use Rattle.step.specs.model.Moves.{at-Y2}
 use borrow.Author.Needs.{needs}
 use Rattle.step.proofs.ready.y2.Statement.{statement}
 use Rattle.step.proofs.ready.y2.Tie as tie

@@ -1,6 +1,6 @@
 -- `step::ready::y3` meets its contract.
 -- Assumes nothing.
-use Rattle.step.specs.Model.{at-Y3}
+use Rattle.step.specs.model.Moves.{at-Y3}
 use borrow.Author.Needs.{needs}
 use Rattle.step.proofs.ready.y3.Statement.{statement}
 use Rattle.step.proofs.ready.y3.Tie as tie

@@ -1,7 +1,7 @@
 -- `step::trylock::gt1` meets its contract.
 -- Assumes nothing.
 use borrow.Author.Tests.{eq-eqb, ne-eqb}
-use Rattle.step.specs.Model.{at-GT1}
+use Rattle.step.specs.model.Moves.{at-GT1}
 use borrow.Author.Needs.{needs}
 use Rattle.step.proofs.trylock.gt1.Statement.{statement}
 use Rattle.step.proofs.trylock.gt1.Tie as tie

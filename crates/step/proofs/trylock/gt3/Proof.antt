@@ -1,6 +1,6 @@
 -- `step::trylock::gt3` meets its contract.
 -- Assumes nothing.
-use Rattle.step.specs.Model.{at-GT3}
+use Rattle.step.specs.model.Moves.{at-GT3}
 use borrow.Author.Needs.{needs}
 use Rattle.step.proofs.trylock.gt3.Statement.{statement}
 use Rattle.step.proofs.trylock.gt3.Tie as tie

@@ -1,7 +1,7 @@
 -- `step::trylock::tl1` meets its contract.
 -- Assumes nothing.
 use borrow.Author.Tests.{eq-eqb, ne-eqb}
-use Rattle.step.specs.Model.{at-TL1}
+use Rattle.step.specs.model.Moves.{at-TL1}
 use borrow.Author.Needs.{needs}
 use Rattle.step.proofs.trylock.tl1.Statement.{statement}
 use Rattle.step.proofs.trylock.tl1.Tie as tie

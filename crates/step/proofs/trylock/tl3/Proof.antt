@@ -1,6 +1,6 @@
 -- `step::trylock::tl3` meets its contract.
 -- Assumes nothing.
-use Rattle.step.specs.Model.{at-TL3}
+use Rattle.step.specs.model.Moves.{at-TL3}
 use borrow.Author.Needs.{needs}
 use Rattle.step.proofs.trylock.tl3.Statement.{statement}
 use Rattle.step.proofs.trylock.tl3.Tie as tie

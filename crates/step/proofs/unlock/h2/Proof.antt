@@ -1,6 +1,6 @@
 -- `step::unlock::h2` meets its contract.
 -- Assumes nothing.
-use Rattle.step.specs.Model.{at-H2}
+use Rattle.step.specs.model.Moves.{at-H2}
 use borrow.Author.Needs.{needs}
 use Rattle.step.proofs.unlock.h2.Statement.{statement}
 use Rattle.step.proofs.unlock.h2.Tie as tie

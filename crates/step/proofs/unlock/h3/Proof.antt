@@ -1,6 +1,6 @@
 -- `step::unlock::h3` meets its contract.
 -- Assumes nothing.
-use Rattle.step.specs.Model.{at-H3}
+use Rattle.step.specs.model.Moves.{at-H3}
 use borrow.Author.Needs.{needs}
 use Rattle.step.proofs.unlock.h3.Statement.{statement}
 use Rattle.step.proofs.unlock.h3.Tie as tie

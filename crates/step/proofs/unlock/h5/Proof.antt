@@ -1,6 +1,6 @@
 -- `step::unlock::h5` meets its contract.
 -- Assumes nothing.
-use Rattle.step.specs.Model.{at-H5}
+use Rattle.step.specs.model.Moves.{at-H5}
 use borrow.Author.Needs.{needs}
 use Rattle.step.proofs.unlock.h5.Statement.{statement}
 use Rattle.step.proofs.unlock.h5.Tie as tie

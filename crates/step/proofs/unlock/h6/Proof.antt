@@ -1,6 +1,6 @@
 -- `step::unlock::h6` meets its contract.
 -- Assumes nothing.
-use Rattle.step.specs.Model.{at-H6}
+use Rattle.step.specs.model.Moves.{at-H6}
 use borrow.Author.Needs.{needs}
 use Rattle.step.proofs.unlock.h6.Statement.{statement}
 use Rattle.step.proofs.unlock.h6.Tie as tie

@@ -1,6 +1,6 @@
 -- `step::unlock::h8` meets its contract.
 -- Assumes nothing.
-use Rattle.step.specs.Model.{at-H8}
+use Rattle.step.specs.model.Moves.{at-H8}
 use borrow.Author.Needs.{needs}
 use Rattle.step.proofs.unlock.h8.Statement.{statement}
 use Rattle.step.proofs.unlock.h8.Tie as tie

@@ -1,7 +1,7 @@
 -- `step::unlock::u1` meets its contract.
 -- Assumes nothing.
 use borrow.Author.Tests.{eq-eqb, ne-eqb}
-use Rattle.step.specs.Model.{at-U1}
+use Rattle.step.specs.model.Moves.{at-U1}
 use borrow.Author.Needs.{needs}
 use Rattle.step.proofs.unlock.u1.Statement.{statement}
 use Rattle.step.proofs.unlock.u1.Tie as tie

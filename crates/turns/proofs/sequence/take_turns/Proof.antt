@@ -8,15 +8,16 @@ use borrow.Author.Needs.{needs}
 use lib.ListN.{length, set, take, drop}
 use Rattle.state.specs.declared.State.{State}
 use Rattle.state.specs.declared.Session.{Session}
-use Rattle.state.proofs.Sized.{Sized, session-sized}
+use Rattle.state.specs.Record.{Sized}
+use Rattle.state.proofs.Sized.{session-sized}
 use Rattle.reference.specs.Lists.{tabulate}
 use Rattle.session.specs.Contract.{progress-in}
-use Rattle.snapshot.proofs.writer.put.Reads as put-reads
+use Rattle.picture.proofs.writer.put.Reads as put-reads
 use Rattle.turns.specs.Contract.{class-refusal}
 use Rattle.turns.proofs.Loop.{Going, going-start, going-more, going-end, Rooms, rooms}
-use Rattle.turns.proofs.sequence.picture_size.Reads as picture-size-reads
+use Rattle.state.proofs.layout.picture_bytes.Reads as picture-bytes-reads
 use Rattle.turns.proofs.sequence.keep_move.Reads as keep-move-reads
-use Rattle.turns.proofs.taken.take_turn.Reads as take-turn-reads
+use Rattle.turns.proofs.made.make_turn.Reads as make-turn-reads
 use Rattle.turns.proofs.sequence.take_turns.Statement.{statement}
 use Rattle.turns.proofs.sequence.take_turns.Reads as reads
 use Rattle.turns.proofs.sequence.take_turns.Lts as lts
@@ -39,10 +40,10 @@ abbrev μ-loop : tie.MeasureT-loop
 abbrev Stage : Type 0
 Stage =
     lts.At-loop (
-      picture-size-reads.Asked,
-      picture-size-reads.Learnt,
-      take-turn-reads.Asked,
-      take-turn-reads.Learnt,
+      picture-bytes-reads.Asked,
+      picture-bytes-reads.Learnt,
+      make-turn-reads.Asked,
+      make-turn-reads.Learnt,
       keep-move-reads.Asked,
       keep-move-reads.Learnt,
       put-reads.Asked,
@@ -52,7 +53,7 @@ Stage =
 
 rooms-at : (l : Stage) →
     let a = l .before .before .before .before .before .before .before .before .args in
-    Rooms (a .journal .now) (a .turns .now) (a .answers .now) (a .pictures .now) (l .before .picture-size .result) (l .loop .i) (l .loop .at) (l .loop .journal)
+    Rooms (a .journal .now) (a .turns .now) (a .answers .now) (a .pictures .now) (l .before .picture-bytes .result) (l .loop .i) (l .loop .at) (l .loop .journal)
     (l .loop .answers) (l .loop .pictures)
 rooms-at l =
     let s = l .before .before .before .before .before .before .before .before in
@@ -63,7 +64,7 @@ rooms-at l =
     subst
     (λ (n : ℕ).
     Rooms (a .journal .now) (a .turns .now) (a .answers .now) (a .pictures .now) n (l .loop .i) (l .loop .at) (l .loop .journal) (l .loop .answers) (l .loop .pictures))
-    (sym (l .before .picture-size .ensures)) (rooms r z _ _ _ _ _ none _ _ _ _ _ _ _ (l .loop .inv (r .initial) z none (s .pre .counted)))
+    (sym (l .before .picture-bytes .ensures)) (rooms r z _ _ _ _ _ none _ _ _ _ _ _ _ (l .loop .inv (r .initial) z none (s .pre .counted)))
 
 loop-holds : tie.Need-loop-holds Inv-loop μ-loop
 loop-holds c = λ b z none e. going-start _ z _ _ _ _ _ none _ e
@@ -86,7 +87,7 @@ add-at c = let s = c .before .before .before .before .before .before .before .be
 loop-again : tie.Need-loop-again Inv-loop μ-loop
 loop-again c =
     let l = c .before .before .before .before .before .before .before .before .before .before .before .before .before in
-    let turn = c .before .before .before .before .before .before .before .before .before .before .take-turn in
+    let turn = c .before .before .before .before .before .before .before .before .before .before .make-turn in
     let kept = c .before .before .before .before .before .before .before .before .keep-move in
     let wrote = c .before .before .put in
     let shows : List ℕ = l .loop .pictures in
@@ -96,7 +97,7 @@ loop-again c =
     subst
     (λ (n : ℕ).
     Going _ z _ _ _ _ _ none (l .loop .i + 1) (at + n) (turn .result .state) (turn .result .calls) (kept .last .0)
-    (set (l .loop .answers) (l .loop .i) (turn .result .refusal)) after) (sym (l .before .picture-size .ensures))
+    (set (l .loop .answers) (l .loop .i) (turn .result .refusal)) after) (sym (l .before .picture-bytes .ensures))
     (going-more _ z _ _ _ _ _ none _ _ _ _ _ _ _ (l .loop .inv b z none e) (c .before .before .before .before .before .before .before .before .before .before .before .before .loop-test .taken) (turn .result) (turn .ensures) (kept .last .0) _
     (wrote .last .0) (kept .ensures) refl (wrote .ensures .1))
 

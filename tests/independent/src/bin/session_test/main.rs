@@ -1,7 +1,7 @@
 //! Writes the script of the program `session_test` and the answers it must give, as the files
 //! `stdin` and `stdout` of the folder given as argument.
 
-mod bench;
+mod commands;
 mod script;
 mod scripted;
 
@@ -16,6 +16,6 @@ fn main() -> io::Result<()> {
     let folder = Path::new(&folder);
     let script = script::whole();
     fs::create_dir_all(folder)?;
-    fs::write(folder.join("stdout"), bench::answers(&script))?;
+    fs::write(folder.join("stdout"), commands::answers(&script))?;
     fs::write(folder.join("stdin"), script)
 }

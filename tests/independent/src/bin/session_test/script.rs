@@ -1,6 +1,6 @@
 //! The script: the sessions of document 01, and each refusal at its boundaries.
 
-use crate::bench::{
+use crate::commands::{
     first, mutex, own_first, probe, processor, thread, Fields, APPLIED, BORN, FIELDS, STEALING,
 };
 use crate::scripted;
@@ -157,7 +157,7 @@ fn there_and_back(s: &mut Script, name: &str, worked: &Worked) {
 }
 
 /// Creates, yields and exits.
-fn tour() -> Worked {
+fn creates_yields_exits() -> Worked {
     Worked::new(Config::new(2, 4, 1, 1))
         .call(1, CREATE, 3)
         .go(1, 1)
@@ -196,7 +196,7 @@ fn worked_sessions(s: &mut Script) {
     there_and_back(s, "K6", &worked::k6());
     there_and_back(s, "K7", &worked::k7());
     there_and_back(s, "K8 by moves", &worked::k8());
-    there_and_back(s, "creates, yields, exits", &tour());
+    there_and_back(s, "creates, yields, exits", &creates_yields_exits());
     there_and_back(s, "other outcomes", &other_outcomes());
     for p in 1..=3 {
         there_and_back(s, &format!("processor {p} takes from all queues"), &worked::steals(p));
@@ -257,7 +257,7 @@ fn wrong_moves(s: &mut Script) {
 }
 
 /// 6: nobody owns, another does, the owner has yielded, runs again, has exited.
-fn strangers(s: &mut Script) {
+fn unlocks(s: &mut Script) {
     s.say("# 6");
     let begun = Worked::new(Config::new(1, 2, 2, 2));
     let owning = begun.clone().call(1, LOCK, 1).go(1, 1);
@@ -298,6 +298,38 @@ fn creates(s: &mut Script) {
             }
         }
         s.say("hash");
+    }
+}
+
+/// Every processor's go and calls, from states inside calls and at their ends; the picture in a
+/// buffer of no bytes, and turns ahead of each thread.
+fn every_move(s: &mut Script) {
+    s.say("# every move");
+    let (k5, k6, k7) = (worked::k5(), worked::k6(), worked::k7());
+    let (steals, own) = (worked::steals(2), worked::own_queues());
+    let some = random(Config::new(3, 7, 2, 7), 11, 150);
+    let each = random(Config::new(3, 7, 2, 7).with_stealing(1), 11, 150);
+    let less: [(&Worked, &[usize]); 9] = [
+        (&worked::k4(), &[0]),
+        (&worked::session_s(2), &[0]),
+        (&k5, &[3, 1, 0]),
+        (&k6, &[4, 2, 0]),
+        (&k7, &[6, 3, 1, 0]),
+        (&steals, &[16, 11, 10, 5]),
+        (&own, &[0]),
+        (&some, &[0]),
+        (&each, &[0]),
+    ];
+    for (worked, less) in less {
+        for less in less {
+            s.played(&worked.front(worked.moves.len() - less));
+            s.all(&["keep", "p", "p 0"]);
+            for p in 1..=worked.config.processors {
+                s.try_move([p, GO, 0]);
+                calls(p).into_iter().for_each(|call| s.try_move(call));
+            }
+            (0..=worked.config.threads + 1).for_each(|t| s.say(&format!("q {t}")));
+        }
     }
 }
 
@@ -396,15 +428,17 @@ fn damages(fields: &Fields, i: usize, few: bool) -> Vec<u16> {
     values
 }
 
-/// 15 (record): each field of a record damaged, then a move, a step back and the front.
+/// 15 (record): each field of a record damaged, then a step back, the front, the picture, turns
+/// ahead and a move.
 fn damaged(s: &mut Script, name: &str, record: &Record, made: Move, few: bool) {
     writeln!(s.0, "# 15: fields of {name}").unwrap();
     s.all(&["keep", "picture"]);
     let fields = Fields::of(record);
     let [p, a, o] = made;
+    let looks = if few { "p\nq 1\n" } else { "p\np 0\nq 0\nq 1\nq 33\n" };
     for i in 0..FIELDS {
         for value in damages(&fields, i, few) {
-            write!(s.0, "c {i} {value}\nb\nf\nm {p} {a} {o}\na\n").unwrap();
+            write!(s.0, "c {i} {value}\nb\nf\n{looks}m {p} {a} {o}\na\n").unwrap();
         }
     }
     s.say("hash");
@@ -624,8 +658,9 @@ pub fn whole() -> String {
     starts(s);
     worked_sessions(s);
     wrong_moves(s);
-    strangers(s);
+    unlocks(s);
     creates(s);
+    every_move(s);
     steps_back_with_none(s);
     short_journals(s);
     damaged_records(s);

@@ -1,7 +1,7 @@
 //! The script's part on scripted threads: 19 at its boundaries, the order of refusals, which call
 //! is next, classes and their buffers.
 
-use crate::bench::{processor, ANSWERS, APPLIED, BORN, PICTURES, SCRIPTS, TURNS};
+use crate::commands::{processor, ANSWERS, APPLIED, BORN, PICTURES, SCRIPTS, TURNS};
 use crate::script::{table, Script, FIFTHS, LENGTHS, MOST};
 use independent::machine::{Config, CREATE, EXIT, LOCK, TRYLOCK, UNLOCK, YIELD};
 use independent::picture;
@@ -386,7 +386,7 @@ fn buffers(w: &mut Writer) {
         let scripts = Generator::new(turns as u64).scripts(config);
         w.scripts(&scripts[..SCRIPT * usize::from(config.threads)]);
         w.lend_scripts(SCRIPTS);
-        w.say(&format!("yarn {turns} {}", config.processors + 1));
+        w.say(&format!("generate {turns} {}", config.processors + 1));
         w.turns = [255; TURNS];
         w.init(config);
         w.say("keep");
@@ -434,7 +434,7 @@ fn random_classes(w: &mut Writer) {
         for part in 1..=8 {
             let most = TURNS.min(PICTURES / picture_length(config));
             let turns = 1 + generator.below(most);
-            w.say(&format!("yarn {} {}", 10 * seed + part, p + generator.between(0, 1)));
+            w.say(&format!("generate {} {}", 10 * seed + part, p + generator.between(0, 1)));
             w.drive(config, turns);
             w.all(&["p", "hash"]);
             match part % 3 {

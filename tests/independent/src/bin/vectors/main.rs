@@ -1,6 +1,5 @@
 //! Writes the test vectors into the folder given as argument.
 
-mod calls;
 mod classes;
 mod pictures;
 mod sessions;
@@ -53,6 +52,5 @@ fn main() -> io::Result<()> {
     pictures::write_all(&Folder::new(root, "pictures")?)?;
     sessions::write_all(&Folder::new(root, "sessions")?)?;
     turns::write_all(&Folder::new(root, "turns")?)?;
-    classes::write_all(&Folder::new(root, "classes")?)?;
-    calls::write_all(&Folder::new(root, "calls")?)
+    classes::write_all(&Folder::new(root, "classes")?)
 }

@@ -187,7 +187,7 @@ fn refusals() -> Vec<u8> {
         "move 1 0 0",
         "show",
         "move 1 6 3",
-        // Owner 1; strangers get 6
+        // Owner 1; others get 6
         "move 1 1 1",
         "move 1 0 0",
         "move 2 3 1",
@@ -422,7 +422,7 @@ fn endings() -> Vec<(&'static str, Vec<u8>)> {
 }
 
 fn fixed() -> Vec<(&'static str, Vec<u8>)> {
-    let stranger = Worked::new(Config::new(2, 2, 1, 2)).call(1, 1, 1).go(1, 1);
+    let owned = Worked::new(Config::new(2, 2, 1, 2)).call(1, 1, 1).go(1, 1);
     vec![
         ("example", script(&["start 1 1 1 1", "show"])),
         ("k1", script(&["start 8 32 8 32", "show"])),
@@ -433,7 +433,7 @@ fn fixed() -> Vec<(&'static str, Vec<u8>)> {
         ("k6", shown(&worked::k6(), &[])),
         ("k7", shown(&worked::k7(), &[])),
         ("k8-by-moves", shown(&worked::k8(), &[])),
-        ("k9", shown(&stranger, &["move 2 3 1", "show"])),
+        ("k9", shown(&owned, &["move 2 3 1", "show"])),
         (
             "before-start",
             script(&[

@@ -7,7 +7,7 @@ use independent::session::{ahead, Ahead};
 use std::fmt::Write;
 use std::io;
 
-pub fn line(shown: &Snapshot, thread: u8) -> String {
+fn line(shown: &Snapshot, thread: u8) -> String {
     match ahead(shown, thread) {
         Ahead::Waits(turns) => format!("{thread} waits {turns}\n"),
         Ahead::NotWaiting => format!("{thread} not-waiting\n"),

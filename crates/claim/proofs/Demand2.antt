@@ -1,0 +1,121 @@
+-- Demand 2 holds of the contracts.
+-- Assumes nothing.
+use Prim.Native.Nat.{ℕ, _≤_}
+use mathlib.Core.Bool.{Bool, true, false, not}
+use mathlib.Core.List.{List}
+use mathlib.Core.Path.{_≡_, refl, subst}
+use native.Mathlib.Omega.{arith}
+use lib.Dec.{ltb}
+use lib.ListN.{length, take}
+use borrow.Author.Tests.{eq-eqb, le-ltb, not-false}
+use Rattle.state.specs.declared.State.{State as Record}
+use Rattle.state.specs.declared.Session.{Session}
+use Rattle.state.specs.Association.{encode, decode}
+use Rattle.state.specs.Rules.{state-ok, session-ok}
+use Rattle.state.specs.Allowed.{Allowed}
+use Rattle.state.specs.Record.{Sized}
+use Rattle.reference.specs.Refusal.{too-short, bad-record, refuse}
+use Rattle.reference.specs.Lists.{with-front}
+use Rattle.reference.specs.State.{State}
+use Rattle.reference.specs.Step.{Move, next}
+use Rattle.reference.specs.Cause.{cause}
+use Rattle.reference.specs.Break.{step-breaks}
+use Rattle.reference.specs.Safe.{In}
+use Rattle.reference.specs.Session.{short}
+use Rattle.reference.specs.Picture.{picture}
+use Rattle.reference.proofs.Tests.{passed}
+use Rattle.shown.proofs.Decode.{decode-encode, encode-ok}
+use Rattle.shown.proofs.Unique.{encode-sized, one-to-one, session-held, session-record-ok}
+use Rattle.agreement.proofs.Moved.{not-refused}
+use Rattle.agreement.proofs.Fields.{next-allowed}
+use Rattle.picture.specs.Picture.{picture-length, write-refusal, written, read}
+use Rattle.picture.proofs.Formula.{meaning-ahead}
+use Rattle.picture.proofs.RoundTrip.{picture-reads, fields-sized, read-keeps, read-pictures, picture-size, written-reads, read-writes}
+use Rattle.session.specs.Contract.{shown, or-later, lent-refusal, move-refusal, moved, journal-after}
+use Rattle.session.proofs.Answers.{lent-passed}
+use Rattle.session.proofs.Holding.{or-passed}
+use Rattle.claim.specs.Implementation.{contract}
+use Rattle.claim.specs.Demand2.{MoveIs, Pictures, Demand2}
+use Rattle.claim.proofs.Refusals.{refusals}
+
+-- ---- a move
+
+module _ (r : Session) (j : List ℕ) (a : Move) where
+  number-is : moved r j a .refusal ≡
+      refuse (short (length j)) too-short (refuse (not (session-ok r)) bad-record (or-later (cause (shown r) a) (refuse (step-breaks (shown r) a) bad-record 0)))
+  unfolding moved move-refusal lent-refusal
+  number-is = by (short (length j)) (session-ok r) (or-later (cause (shown r) a) (refuse (step-breaks (shown r) a) bad-record 0))
+    where
+      by : (b ok : Bool) (n : ℕ) → or-later (refuse b too-short (refuse (not ok) bad-record 0)) n ≡ refuse b too-short (refuse (not ok) bad-record n)
+      by true ok n = refl
+      by false true n = refl
+      by false false n = refl
+
+  module _ (z : Sized (r .state)) (e : move-refusal r j a ≡ 0) where
+    allowed-next : Allowed (next (shown r) a) × In (next (shown r) a .T) (r .initial)
+    unfolding move-refusal next decode
+    allowed-next =
+        let first = or-passed (lent-refusal r (length j)) _ e in
+        let h = session-held r z (lent-passed r (length j) (first .0) .1) in
+        let free = not-refused (shown r) a (first .1) in
+        (next-allowed (shown r) a (free .0) (free .1) (h .allowed), h .initial)
+
+  move-is : MoveIs contract r j a
+  unfolding moved journal-after
+  move-is =
+      record {
+        number = number-is;
+        session = λ e. rw (eq-eqb (move-refusal r j a) 0 e);
+        journal = λ e. rw (eq-eqb (move-refusal r j a) 0 e);
+        valid = λ z e.
+            let n = allowed-next z e in
+            rw (eq-eqb (move-refusal r j a) 0 e) (encode-sized (next (shown r) a), session-record-ok (next (shown r) a) (r .initial) (n .0) (n .1));
+        next-shown = λ z e. rw (eq-eqb (move-refusal r j a) 0 e) (decode-encode (next (shown r) a) (allowed-next z e .0));
+      }
+
+-- ---- pictures
+
+module _ (r : Record) (z : Sized r) where
+  writes : state-ok r ≡ true → (b : List ℕ) → length (picture (decode r)) ≤ length b →
+      contract .write r b ≡ record { refusal = 0; buffer = with-front b (picture (decode r)) }
+  unfolding written
+  writes e b h =
+      let l = picture-size r z e in
+      let g : write-refusal r (length b) ≡ 0 = rw (e, le-ltb (length b) (picture-length r) (omega arith)) in
+      let w : written r b ≡ with-front b (picture (decode r)) = rw (g, l) in
+      λ i. record { refusal = g i; buffer = w i }
+
+  write-number : (b : List ℕ) →
+      write-refusal r (length b) ≡ refuse (not (state-ok r)) bad-record (refuse (ltb (length b) (length (picture (decode r)))) too-short 0)
+  write-number b = by (state-ok r) (picture-size r z)
+    where
+      by : (ok : Bool) → (ok ≡ true → length (picture (decode r)) ≡ picture-length r) →
+          refuse (not ok) bad-record (refuse (ltb (length b) (picture-length r)) too-short 0) ≡
+          refuse (not ok) bad-record (refuse (ltb (length b) (length (picture (decode r)))) too-short 0)
+      by true l = rw (l refl)
+      by false l = refl
+
+  reads-back : (b : List ℕ) → write-refusal r (length b) ≡ 0 → read (take (length (picture (decode r))) (written r b)) ≡ record { refusal = 0; state = r }
+  reads-back b e =
+      let k : state-ok r ≡ true = not-false (state-ok r) (passed (not (state-ok r)) _ _ e .0) in
+      rw (picture-size r z k) (written-reads r z b e)
+
+read-sized : (b : List ℕ) → read b .refusal ≡ 0 → Sized (read b .state)
+unfolding read
+read-sized b e = rw e (fields-sized b)
+
+pictures : Pictures contract
+pictures =
+    record {
+      writes = λ r v b h. writes r (v .0) (v .1) b h;
+      number = λ r z b. write-number r z b;
+      reads = λ s h.
+          subst (λ (x : State). read (picture x) ≡ record { refusal = 0; state = encode s }) (decode-encode s h)
+          (picture-reads (encode s) (encode-sized s) (encode-ok s h));
+      reads-back = λ r z b e. reads-back r z b e;
+      reads-valid = λ b w e. ((read-sized b e, read-keeps b w e), read-pictures b w e);
+      writes-back = λ b w e buffer h. let x = read-writes b w e buffer h in λ i. record { refusal = x .0 i; buffer = x .1 i };
+    }
+
+pub demand2 : Demand2 contract
+demand2 = record { states = one-to-one; moves = move-is; pictures = pictures; turns = meaning-ahead; refusals = refusals }

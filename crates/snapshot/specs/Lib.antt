@@ -1,4 +1,0 @@
--- Pictures of a record, and turns ahead.
-pub mod Snapshot
-pub mod Turns
-pub mod Model
