@@ -25,12 +25,12 @@ Fits c size l (passes ∷ es) = Fits c size l es
 
 -- ---- one more event
 
-held-then : (h : Held) (es : List Event) (e : Event) → held-after contract h (es ++ e ∷ []) ≡ step contract (held-after contract h es) e
+pub held-then : (h : Held) (es : List Event) (e : Event) → held-after contract h (es ++ e ∷ []) ≡ step contract (held-after contract h es) e
 unfolding held-after
 held-then h [] e = refl
 held-then h (d ∷ es) e = held-then (step contract h d) es e
 
-session-then : (h : Held) (es : List Event) (e : Event) → IsSession contract h es → Belongs contract (held-after contract h es) e → IsSession contract h (es ++ e ∷ [])
+pub session-then : (h : Held) (es : List Event) (e : Event) → IsSession contract h es → Belongs contract (held-after contract h es) e → IsSession contract h (es ++ e ∷ [])
 unfolding held-after IsSession
 session-then h [] e s b = (b, tt)
 session-then h (d ∷ es) e s b = (s .0, session-then (step contract h d) es e (s .1) b)

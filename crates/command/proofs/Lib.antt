@@ -1,9 +1,12 @@
 -- Exactly the spelled lines are commands (Grammar); laws that the functions' proofs cite (the others).
 pub mod Laws
 pub mod Read
+pub mod Listed
 pub mod Put
-pub mod Sized
 pub mod Fields
 pub mod Lines
-pub mod Fed
+pub mod Asks
+pub mod Held
+pub mod Scan
 pub mod Grammar
+pub mod Transcript

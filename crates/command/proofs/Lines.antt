@@ -20,7 +20,7 @@ use Rattle.command.proofs.Laws.{both}
 use Rattle.command.proofs.Fields.{field-spelled, field-only}
 
 -- no digit stands where a field starts
-no-digit : (n : ℕ) (rest : List ℕ) → is-digit (getD (field n ++ rest) 0 0) ≡ false
+pub no-digit : (n : ℕ) (rest : List ℕ) → is-digit (getD (field n ++ rest) 0 0) ≡ false
 unfolding field
 no-digit n rest = refl
 
@@ -28,7 +28,7 @@ last-digit : (n : ℕ) → is-digit (getD (field n) 0 0) ≡ false
 unfolding field
 last-digit n = refl
 
-field-positive : (n : ℕ) → 0 < length (field n)
+pub field-positive : (n : ℕ) → 0 < length (field n)
 unfolding field
 field-positive n = omega arith
 
@@ -88,7 +88,7 @@ three-only l h = go (ltb 0 (x .width) && ltb 0 (y .width) && ltb 0 (z .width)) r
 
 -- ---- the words
 
-starts-front : (w l : List ℕ) → starts w l ≡ true → l ≡ w ++ drop (length w) l
+pub starts-front : (w l : List ℕ) → starts w l ≡ true → l ≡ w ++ drop (length w) l
 unfolding starts
 starts-front [] l e = refl
 starts-front (x ∷ w) [] e = absurd (false≢true e)
@@ -171,7 +171,7 @@ spelled-read Unknown h = absurd h
 
 -- ---- a command that is read is spelled
 
-record Written (l : List ℕ) (c : Command) : Type 0 where
+pub record Written (l : List ℕ) (c : Command) : Type 0 where
   pub line : l ≡ spell c
   pub known : Known c
 
@@ -256,12 +256,12 @@ move-only l s = go (ltb 0 (r .width) && eqb (4 + r .width) (length l)) refl
         })
 
 -- a word that is the whole line
-word-only : (w l : List ℕ) → length w ≡ length l → starts w l ≡ true → l ≡ w
+pub word-only : (w l : List ℕ) → length w ≡ length l → starts w l ≡ true → l ≡ w
 word-only w l n s =
     let m : length l ≤ length w = omega arith in
     starts-front w l s ∙ ap (λ (r : List ℕ). w ++ r) (drop-of-length-le l m) ∙ append-nil w
 
-read : (l : List ℕ) → (command-of l ≡ Unknown) ⊎ Written l (command-of l)
+pub read : (l : List ℕ) → (command-of l ≡ Unknown) ⊎ Written l (command-of l)
 unfolding command-of spell
 read l = at-start (starts start-word l) refl
   where
@@ -321,7 +321,7 @@ decimal-length n = one (ltb n 10)
     one true = omega arith
     one false = two (ltb n 100)
 
-field-length : (n : ℕ) → length (field n) ≤ 4
+pub field-length : (n : ℕ) → length (field n) ≤ 4
 unfolding field
 field-length n = omega (arith, decimal-length n)
 

@@ -2,4 +2,6 @@
 pub mod Command
 pub mod Grammar
 pub mod Printing
+pub mod Request
+pub mod Transcript
 pub mod model

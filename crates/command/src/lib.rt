@@ -1,7 +1,9 @@
-// The program's lines: which command a line is, and the bytes of a response.
+// The programs' lines: reading them, which command or request a line is, and the bytes of a response.
+pub mod input;
 pub mod line;
 pub mod printing;
 pub mod reading;
+pub mod request;
 
 // start P T M B, the same with a fifth number, move p a o, back, show; any other line is Unknown.
 pub enum Command {

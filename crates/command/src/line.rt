@@ -1,13 +1,13 @@
-// A line, fed byte by byte, so that it can span reads.
+// A line in a lent buffer, fed byte by byte, so that it can span reads.
 ghost use mathlib.Core.Path.{_≡_};
+ghost use lib.ListN.{length, set};
 ghost use Rattle.command.specs.model.Line.{empty-line, fed, command-in};
 use crate::Command;
 use crate::reading::command_of;
 
-// The bytes so far; long: there were more than 64, and the later ones are dropped.
+// How many bytes the buffer holds of it; long: there were more, and they are dropped.
 pub struct Line {
-    pub bytes: [u8; 64],
-    pub len: u8,
+    pub len: usize,
     pub long: bool,
 }
 
@@ -15,40 +15,36 @@ impl Line {
     pub fn empty() -> Line
         ensures { λ r. ⌜ r ≡ empty-line ⌝ }
     {
-        let bytes = [0u8; 64];
         Line {
-            bytes,
             len: 0,
             long: false,
         }
     }
 
-    pub fn fed(mut self, b: u8) -> Line
-        ensures { λ r. ⌜ r ≡ fed self b ⌝ }
+    pub fn fed(self, b: u8, bytes: &mut [u8]) -> Line
+        ensures { λ r. ⌜ r ≡ fed self (length (now (bytes .entry))) ⌝ }
+        ensures { λ r. ⌜ now (bytes .exit) ≡ set (now (bytes .entry)) (self .len) b ⌝ }
     {
-        let n = self.len;
-        let i = n as usize;
-        if i < 64 {
-            self.bytes[i] = b;
-            self.len = n + 1;
-        } else {
-            self.long = true;
+        let len = self.len;
+        let long = self.long;
+        if len < bytes.len() {
+            bytes[len] = b;
+            return Line { len: len + 1, long };
         }
-        self
+        Line { len, long: true }
     }
 
-    pub fn command(self) -> Command
-        ensures { λ r. ⌜ r ≡ command-in self ⌝ }
+    pub fn command(self, bytes: &[u8]) -> Command
+        ensures { λ r. ⌜ r ≡ command-in self (now (bytes .entry)) ⌝ }
     {
-        let n = self.len as usize;
-        let bytes = self.bytes;
+        let len = self.len;
         let long = self.long;
         if long {
             return Command::Unknown;
         }
-        if 64 < n {
+        if bytes.len() < len {
             return Command::Unknown;
         }
-        command_of(&bytes[..n])
+        command_of(&bytes[..len])
     }
 }

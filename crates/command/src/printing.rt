@@ -1,49 +1,91 @@
-// The bytes of a response, put into a lent buffer at a position. What does not fit is not written, and the same position comes back.
+// Text put into a lent buffer behind its first `at` bytes: as much of it as fits. Each function answers how many bytes count then.
 ghost use mathlib.Core.Path.{_≡_};
-ghost use Prim.Native.Nat.{_+_, _%_};
-ghost use lib.Dec.{leb};
-ghost use Rattle.command.specs.Printing.{decimal, hex-digit, hex};
-ghost use Rattle.command.specs.model.Put.{put-into, put-end};
+ghost use Prim.Native.Nat.{_+_, _-_, _%_, _<_, min};
+ghost use mathlib.Core.List.{_++_};
+ghost use Rattle.command.specs.Printing.{decimal, wide, hex-digit, hex, line-feed, spaces, buffer-of, add};
 
-fn fits(len: usize, at: usize, count: usize) -> bool
-    ensures { λ r. ⌜ r ≡ leb (at + count) len ⌝ }
+// A difference, 0 where it would be below.
+fn less(n: usize, m: usize) -> usize
+    ensures { λ r. ⌜ r ≡ n - m ⌝ }
 {
-    if len < at {
-        return false;
-    }
-    count <= len - at
+    if m <= n { n - m } else { 0 }
+}
+
+// How many of n bytes fit behind `at` in a buffer of so many.
+fn fitting(len: usize, at: usize, n: usize) -> usize
+    ensures { λ r. ⌜ r ≡ min n (len - at) ⌝ }
+{
+    let room = less(len, at);
+    if n <= room { n } else { room }
 }
 
 pub fn put(out: &mut [u8], at: usize, bytes: &[u8]) -> usize
-    ensures { λ r. ⌜ r ≡ put-end (now (out .entry)) at (now (bytes .entry)) ⌝ }
-    ensures { λ r. ⌜ now (out .exit) ≡ put-into (now (out .entry)) at (now (bytes .entry)) ⌝ }
+    ensures { λ r. ⌜ buffer-of (now (out .exit)) r ≡ add (buffer-of (now (out .entry)) at) (now (bytes .entry)) ⌝ }
 {
-    let n = bytes.len();
-    let room = fits(out.len(), at, n);
-    if room {
-        for i in 0..n {
-            out[at + i] = bytes[i];
-        }
-        return at + n;
+    let n = fitting(out.len(), at, bytes.len());
+    for i in 0..n {
+        out[at + i] = bytes[i];
     }
-    at
+    at + n
 }
 
-// A number in decimal.
-pub fn put_number(out: &mut [u8], at: usize, n: u8) -> usize
-    ensures { λ r. ⌜ r ≡ put-end (now (out .entry)) at (decimal n) ⌝ }
-    ensures { λ r. ⌜ now (out .exit) ≡ put-into (now (out .entry)) at (decimal n) ⌝ }
+pub fn put_spaces(out: &mut [u8], at: usize, count: usize) -> usize
+    ensures { λ r. ⌜ buffer-of (now (out .exit)) r ≡ add (buffer-of (now (out .entry)) at) (spaces count) ⌝ }
+{
+    let n = fitting(out.len(), at, count);
+    for i in 0..n {
+        out[at + i] = b' ';
+    }
+    at + n
+}
+
+// Spaces up to the width of a column that began at `from`.
+pub fn pad(out: &mut [u8], at: usize, from: usize, width: usize) -> usize
+    ensures { λ r. ⌜ buffer-of (now (out .exit)) r ≡ add (buffer-of (now (out .entry)) at) (spaces (width - (at - from))) ⌝ }
+{
+    put_spaces(out, at, less(width, less(at, from)))
+}
+
+// The last digit of a number.
+fn digit(n: u16) -> u8
+    ensures { λ r. ⌜ r ≡ 48 + n % 10 ⌝ }
+{
+    b'0' + (n % 10) as u8
+}
+
+// A number below 1,000 in decimal.
+fn put_short(out: &mut [u8], at: usize, n: u16) -> usize
+    requires { ⌜ n < 1000 ⌝ }
+    ensures { λ r. ⌜ buffer-of (now (out .exit)) r ≡ add (buffer-of (now (out .entry)) at) (decimal n) ⌝ }
 {
     if n < 10 {
-        let text = [b'0' + n];
+        let text = [digit(n)];
         return put(out, at, &text);
     }
     if n < 100 {
-        let text = [b'0' + n / 10, b'0' + n % 10];
+        let text = [digit(n / 10), digit(n)];
         return put(out, at, &text);
     }
-    let text = [b'0' + n / 100, b'0' + n / 10 % 10, b'0' + n % 10];
+    let text = [digit(n / 100), digit(n / 10), digit(n)];
     put(out, at, &text)
+}
+
+pub fn put_number(out: &mut [u8], at: usize, n: u8) -> usize
+    ensures { λ r. ⌜ buffer-of (now (out .exit)) r ≡ add (buffer-of (now (out .entry)) at) (decimal n) ⌝ }
+{
+    put_short(out, at, n as u16)
+}
+
+// A number of two bytes.
+pub fn put_wide(out: &mut [u8], at: usize, n: u16) -> usize
+    ensures { λ r. ⌜ buffer-of (now (out .exit)) r ≡ add (buffer-of (now (out .entry)) at) (wide n) ⌝ }
+{
+    if n < 1000 {
+        return put_short(out, at, n);
+    }
+    let end = put_short(out, at, n / 1000);
+    let text = [digit(n / 100), digit(n / 10), digit(n)];
+    put(out, end, &text)
 }
 
 fn hex_digit(d: u8) -> u8
@@ -59,19 +101,29 @@ fn hex_digit(d: u8) -> u8
 
 // Two lower-case hexadecimal digits a byte, unspaced.
 pub fn put_hex(out: &mut [u8], at: usize, bytes: &[u8]) -> usize
-    ensures { λ r. ⌜ r ≡ put-end (now (out .entry)) at (hex (now (bytes .entry))) ⌝ }
-    ensures { λ r. ⌜ now (out .exit) ≡ put-into (now (out .entry)) at (hex (now (bytes .entry))) ⌝ }
+    ensures { λ r. ⌜ buffer-of (now (out .exit)) r ≡ add (buffer-of (now (out .entry)) at) (hex (now (bytes .entry))) ⌝ }
 {
-    let n = bytes.len();
-    let room = fits(out.len(), at, 2 * n);
-    if room {
-        for i in 0..n {
-            let b = bytes[i];
-            let to = at + 2 * i;
-            out[to] = hex_digit(b / 16);
-            out[to + 1] = hex_digit(b);
-        }
-        return at + 2 * n;
+    let mut end = at;
+    for i in 0..bytes.len() {
+        let b = bytes[i];
+        let text = [hex_digit(b / 16), hex_digit(b)];
+        end = put(out, end, &text);
     }
-    at
+    end
+}
+
+// A number on a line of its own.
+pub fn number_line(out: &mut [u8], at: usize, n: u8) -> usize
+    ensures { λ r. ⌜ buffer-of (now (out .exit)) r ≡ add (buffer-of (now (out .entry)) at) (decimal n ++ line-feed) ⌝ }
+{
+    let end = put_number(out, at, n);
+    put(out, end, b"\n")
+}
+
+// Bytes in hexadecimal digits on a line of their own.
+pub fn hex_line(out: &mut [u8], at: usize, bytes: &[u8]) -> usize
+    ensures { λ r. ⌜ buffer-of (now (out .exit)) r ≡ add (buffer-of (now (out .entry)) at) (hex (now (bytes .entry)) ++ line-feed) ⌝ }
+{
+    let end = put_hex(out, at, bytes);
+    put(out, end, b"\n")
 }

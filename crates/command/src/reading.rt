@@ -80,7 +80,7 @@ fn field_of(space: u8, a: u8, b: u8, c: u8) -> Field
     fit(0, 0)
 }
 
-fn field_at(s: &[u8], at: usize) -> Field
+pub(crate) fn field_at(s: &[u8], at: usize) -> Field
     ensures { λ r. ⌜ r ≡ field-at (drop at (now (s .entry))) ⌝ }
 {
     let space = byte(s, at, 0);
@@ -117,7 +117,7 @@ fn three_at(s: &[u8], at: u16) -> Three
 }
 
 // The line begins with this word.
-fn starts(word: &[u8], s: &[u8]) -> bool
+pub(crate) fn starts(word: &[u8], s: &[u8]) -> bool
     ensures { λ r. ⌜ r ≡ starts (now (word .entry)) (now (s .entry)) ⌝ }
 {
     let mut i = 0;

@@ -1,2 +1,3 @@
--- The move that a record of numbers stands for.
+-- The move that a record of numbers stands for; setting a thread's script.
 pub mod Association
+pub mod Contract

@@ -1,12 +1,15 @@
-// Scripts of threads as bytes: whether a buffer holds them, and the call that a thread makes next.
+// Scripts of threads as bytes: whether a buffer holds them, the call that a thread makes next, and setting a thread's script.
 ghost use mathlib.Core.Path.{_≡_};
-ghost use Prim.Native.Nat.{_*_};
+ghost use mathlib.Core.List.{_++_};
+ghost use Prim.Native.Nat.{_+_, _-_, _*_, _≤_};
 ghost use lib.Dec.{leb};
-ghost use lib.ListN.{length};
+ghost use lib.ListN.{length, getD, take, drop};
 ghost use Rattle.reference.specs.Lists.{in-range, each};
-ghost use Rattle.reference.specs.Script.{script-byte, script-action, script-ok, scripts-ok, next-call};
+ghost use Rattle.reference.specs.Script.{script-byte, script-ok, scripts-ok, next-call};
 ghost use Rattle.script.specs.Association.{move-in};
+ghost use Rattle.script.specs.Contract.{calls-ok, set-refusal, script-bytes, scripts-after};
 use state::queues::get;
+use state::refusal::Refusal;
 
 const EXIT: u8 = 5;
 
@@ -17,22 +20,28 @@ pub struct Move {
     pub operand: u8,
 }
 
-// Byte i of thread k's script, 0 past the buffer's end; thread 0 reads thread 1's.
+// Where thread k's script starts; thread 0's is thread 1's.
+fn start_of(k: u8) -> u32
+    ensures { λ r. ⌜ r ≡ 13 * (k - 1) ⌝ }
+{
+    if k == 0 { 0 } else { 13 * ((k - 1) as u32) }
+}
+
+// Byte i of thread k's script, 0 past the buffer's end.
 fn script_byte(scripts: &[u8], k: u8, i: u32) -> u8
     ensures { λ r. ⌜ r ≡ script-byte (now (scripts .entry)) k i ⌝ }
 {
-    let earlier = if k == 0 { 0 } else { k - 1 };
-    get(scripts, 13 * (earlier as usize) + (i as usize))
+    get(scripts, (start_of(k) as usize) + (i as usize))
 }
 
-// The first n calls of thread k's script have actions 1 to 6.
-fn actions_ok(scripts: &[u8], k: u8, n: u8) -> bool
-    ensures { λ r. ⌜ r ≡ each (λ i. in-range 1 6 (script-action (now (scripts .entry)) k i)) 0 n ⌝ }
+// The n calls from `at` on have actions 1 to 6.
+fn actions_ok(bytes: &[u8], at: u32, n: u8) -> bool
+    ensures { λ r. ⌜ r ≡ each (λ i. in-range 1 6 (getD (now (bytes .entry)) (at + 2 * i) 0)) 0 n ⌝ }
 {
     let mut ok = true;
     let mut i: u8 = 0;
     while i < n {
-        let action = script_byte(scripts, k, 2 * (i as u32) + 1);
+        let action = get(bytes, (at as usize) + 2 * (i as usize));
         ok = ok & ((1 <= action) & (action <= 6));
         i += 1;
     }
@@ -45,7 +54,7 @@ fn script_ok(scripts: &[u8], k: u8) -> bool
 {
     let n = script_byte(scripts, k, 0);
     if n <= 6 {
-        actions_ok(scripts, k, n)
+        actions_ok(scripts, start_of(k) + 1, n)
     } else {
         false
     }
@@ -100,4 +109,55 @@ pub fn next_call(scripts: &[u8], p: u8, k: u8, i: u16) -> Move
             operand: 0,
         }
     }
+}
+
+// These bytes are at most 6 whole calls, with actions 1 to 6.
+fn calls_ok(calls: &[u8]) -> bool
+    ensures { λ r. ⌜ r ≡ calls-ok (now (calls .entry)) ⌝ }
+{
+    let n = calls.len();
+    if n <= 12 {
+        (n % 2 == 0) & actions_ok(calls, 0, (n / 2) as u8)
+    } else {
+        false
+    }
+}
+
+// Byte i of the script of these calls.
+fn byte_of(calls: &[u8], i: usize) -> u8
+    requires { ⌜ length (now calls) ≤ 12 ⌝ }
+    ensures { λ r. ⌜ r ≡ getD (script-bytes (now (calls .entry))) i 0 ⌝ }
+{
+    if i == 0 {
+        return (calls.len() / 2) as u8;
+    }
+    get(calls, i - 1)
+}
+
+// The script of these calls, written from `at` on.
+fn write(scripts: &mut [u8], at: u32, calls: &[u8])
+    requires { ⌜ at + 13 ≤ length (now scripts) ⌝ }
+    requires { ⌜ length (now calls) ≤ 12 ⌝ }
+    ensures { λ _. ⌜ now (scripts .exit) ≡ take at (now (scripts .entry)) ++ script-bytes (now (calls .entry)) ++ drop (at + 13) (now (scripts .entry)) ⌝ }
+{
+    let from = at as usize;
+    for i in 0..13usize {
+        scripts[from + i] = byte_of(calls, i);
+    }
+}
+
+// Sets thread k's script among t threads': for each call an action and an operand.
+pub fn set_script(t: u8, scripts: &mut [u8], k: u8, calls: &[u8]) -> u8
+    ensures { λ r. ⌜ r ≡ set-refusal t (now (scripts .entry)) k (now (calls .entry)) ⌝ }
+    ensures { λ r. ⌜ now (scripts .exit) ≡ scripts-after t (now (scripts .entry)) k (now (calls .entry)) ⌝ }
+{
+    if (1 <= k) & (k <= t) {
+        let fit = room(t, scripts) & calls_ok(calls);
+        if fit {
+            write(scripts, start_of(k), calls);
+            return 0;
+        }
+        return Refusal::BAD_SCRIPT;
+    }
+    Refusal::BAD_OPERAND
 }

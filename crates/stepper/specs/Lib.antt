@@ -1,4 +1,2 @@
 -- What the program writes for what it reads.
 pub mod Program
-pub mod Transcript
-pub mod model

@@ -1,0 +1,148 @@
+// What a line of the program `course` asks.
+ghost use Prim.Native.Nat.{ℕ, _≤_};
+ghost use mathlib.Core.Path.{_≡_};
+ghost use mathlib.Core.List.{List};
+ghost use lib.ListN.{length, drop};
+ghost use Rattle.command.specs.Request.{asked, count-in, over};
+ghost use Rattle.command.specs.model.Request.{values, listed, is-word, calls-in, script-line, turns-line, turn-line, short-line, ask-in, front-in};
+use crate::Command;
+use crate::reading::command_of;
+use crate::reading::field_at;
+use crate::reading::starts;
+
+// The stepper's lines, and script k a o .., turn p, turns p .., view, chart, help. Plain(Unknown) is a line that is no command.
+// Script(k, n), Turns(n): their n numbers stand at the front of the lent buffer.
+pub enum Request {
+    Plain(Command),
+    Script(u8, u16),
+    Turn(u8),
+    Turns(u16),
+    View,
+    Chart,
+    Help,
+}
+
+// Fields in a row: how many, and whether they are all there is up to the line's end.
+pub struct Fields {
+    pub count: u16,
+    pub whole: bool,
+}
+
+// The numbers of the fields from `at` on, put at the buffer's front.
+fn fields_at(s: &[u8], at: u16, numbers: &mut [u8]) -> Fields
+    requires { ⌜ 512 ≤ length (now numbers) ⌝ }
+    ensures { λ r. ⌜ r ≡ listed (drop at (now (s .entry))) ⌝ }
+    ensures { λ r. ⌜ now (numbers .exit) ≡ over (now (numbers .entry)) (values 512 (drop at (now (s .entry)))) ⌝ }
+{
+    let mut count: u16 = 0;
+    let mut end = at as usize;
+    while count < 512 {
+        let f = field_at(s, end);
+        let width = f.width;
+        if width == 0 {
+            return Fields {
+                count,
+                whole: s.len() <= end,
+            };
+        }
+        let i = count as usize;
+        numbers[i] = f.value;
+        count += 1;
+        end += width as usize;
+    }
+    Fields {
+        count,
+        whole: s.len() <= end,
+    }
+}
+
+// A line that begins with `script`: a number, and an even number of further ones.
+fn script(s: &[u8], numbers: &mut [u8]) -> Request
+    requires { ⌜ 512 ≤ length (now numbers) ⌝ }
+    ensures { λ r. ⌜ asked r (now (numbers .exit)) ≡ script-line (now (s .entry)) ⌝ }
+    ensures { λ r. ⌜ now (numbers .exit) ≡ over (now (numbers .entry)) (values 512 (calls-in (now (s .entry)))) ⌝ }
+    ensures { λ r. ⌜ count-in r ≤ 512 ⌝ }
+{
+    let k = field_at(s, 6);
+    let from = 6 + k.width as u16;
+    let calls = fields_at(s, from, numbers);
+    if (0 < k.width) & calls.whole & (calls.count % 2 == 0) {
+        return Request::Script(k.value, calls.count);
+    }
+    Request::Plain(Command::Unknown)
+}
+
+// A line that begins with `turns`: one number or more.
+fn turns(s: &[u8], numbers: &mut [u8]) -> Request
+    requires { ⌜ 512 ≤ length (now numbers) ⌝ }
+    ensures { λ r. ⌜ asked r (now (numbers .exit)) ≡ turns-line (now (s .entry)) ⌝ }
+    ensures { λ r. ⌜ now (numbers .exit) ≡ over (now (numbers .entry)) (values 512 (drop 5 (now (s .entry)))) ⌝ }
+    ensures { λ r. ⌜ count-in r ≤ 512 ⌝ }
+{
+    let processors = fields_at(s, 5, numbers);
+    if processors.whole & (0 < processors.count) {
+        return Request::Turns(processors.count);
+    }
+    Request::Plain(Command::Unknown)
+}
+
+// A line that begins with `turn`: one number.
+fn turn(s: &[u8]) -> Request
+    ensures { λ r. ⌜ ((b : List ℕ) → asked r b ≡ turn-line (now (s .entry))) ⌝ }
+    ensures { λ r. ⌜ count-in r ≡ 0 ⌝ }
+{
+    let p = field_at(s, 4);
+    let end = 4 + p.width as usize;
+    if (0 < p.width) & (end == s.len()) {
+        return Request::Turn(p.value);
+    }
+    Request::Plain(Command::Unknown)
+}
+
+// The line is this word.
+fn is_word(word: &[u8], s: &[u8]) -> bool
+    ensures { λ r. ⌜ r ≡ is-word (now (word .entry)) (now (s .entry)) ⌝ }
+{
+    starts(word, s) & (s.len() == word.len())
+}
+
+// A line without a list of numbers.
+fn short(s: &[u8]) -> Request
+    ensures { λ r. ⌜ ((b : List ℕ) → asked r b ≡ short-line (now (s .entry))) ⌝ }
+    ensures { λ r. ⌜ count-in r ≡ 0 ⌝ }
+{
+    if starts(b"turn", s) {
+        return turn(s);
+    }
+    if is_word(b"view", s) {
+        return Request::View;
+    }
+    if is_word(b"chart", s) {
+        return Request::Chart;
+    }
+    if is_word(b"help", s) {
+        return Request::Help;
+    }
+    Request::Plain(command_of(s))
+}
+
+// What a line asks. It has at most 1,024 bytes and the buffer at least 512, enough for its numbers.
+pub fn request_of(line: &[u8], numbers: &mut [u8]) -> Request
+    ensures { λ r. ⌜ asked r (now (numbers .exit)) ≡ ask-in (length (now (numbers .entry))) (now (line .entry)) ⌝ }
+    ensures { λ r. ⌜ now (numbers .exit) ≡ over (now (numbers .entry)) (front-in (length (now (numbers .entry))) (now (line .entry))) ⌝ }
+    ensures { λ r. ⌜ count-in r ≤ 512 ⌝ }
+{
+    if numbers.len() < 512 {
+        return Request::Plain(Command::Unknown);
+    }
+    if 1024 < line.len() {
+        return Request::Plain(Command::Unknown);
+    }
+    if starts(b"script", line) {
+        return script(line, numbers);
+    }
+    if starts(b"turns", line) {
+        return turns(line, numbers);
+    }
+    short(line)
+}

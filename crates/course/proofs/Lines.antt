@@ -1,0 +1,107 @@
+-- What a line on a session that has begun leaves and prints, from what its call answers.
+use Prim.Native.Nat.{ℕ, _≤_}
+use mathlib.Core.Bool.{Bool, true, false, cond}
+use mathlib.Core.Path.{_≡_, refl, ap, ap₂, _∙_}
+use mathlib.Core.List.{List}
+use lib.ListN.{length}
+use borrow.Author.Tests.{le-ltb}
+use Rattle.command.specs.declared.Command.{Command}
+use Rattle.command.specs.Printing.{Buffer, add}
+use Rattle.command.specs.Request.{Ask, plain, script, turn, turns, view, chart, help}
+use Rattle.command.specs.model.Request.{ask-in, ask-of}
+use Rattle.state.specs.declared.Session.{Session}
+use Rattle.session.specs.declared.Answer.{Answer}
+use Rattle.script.specs.Contract.{set-refusal, scripts-after}
+use Rattle.turns.specs.Contract.{turned, turn-journal, classed, class-journal}
+use Rattle.shell.specs.declared.Shell.{Shell}
+use Rattle.shell.specs.Answers as shell
+use Rattle.shell.specs.Answers.{number, question-mark}
+use Rattle.shell.proofs.Buffers.{chosen, passed-over}
+use Rattle.course.specs.Answers.{zeros, class-text}
+use Rattle.course.specs.Program.{Context, context-of, starts, left-with, response, after}
+
+abbrev pub in-context : shell.Context → List ℕ → Context
+in-context k x = record { base = k; scripts = x }
+
+-- a line of the stepper
+pub plain-left : (d : Shell) (j x : List ℕ) (c : Command) (d′ : Shell) (j′ : List ℕ) (t : Bool) (x′ : List ℕ)
+    → shell.context-of d′ j′ ≡ shell.after c (shell.context-of d j) → t ≡ starts c → x′ ≡ cond t (zeros (length x)) x
+    → context-of d′ j′ x′ ≡ after (context-of d j x) (plain c)
+unfolding after
+plain-left d j x c d′ j′ t x′ e b f = ap₂ in-context e (f ∙ ap (λ (q : Bool). cond q (zeros (length x)) x) b)
+
+module _ (d : Shell) (j x : List ℕ) (begun : d .begun ≡ true) where
+  pub script-left : (i : ℕ) (c x′ : List ℕ) → x′ ≡ scripts-after (d .session .state .t) x i c → context-of d j x′ ≡ after (context-of d j x) (script i c)
+  unfolding after
+  script-left i c x′ e =
+      chosen (d .begun) (record { base = shell.context-of d j; scripts = scripts-after (d .session .state .t) x i c }) (context-of d j x) (context-of d j x′) begun
+      (ap (λ (y : List ℕ). context-of d j y) e)
+
+  pub script-text : (p q : Buffer) (i n : ℕ) (c : List ℕ) → n ≡ set-refusal (d .session .state .t) x i c → q ≡ add p (number n) → q ≡ add p (response (context-of d j x) (script i c))
+  unfolding response
+  script-text p q i n c e f = f ∙ ap (add p) (chosen (d .begun) (number (set-refusal (d .session .state .t) x i c)) question-mark (number n) begun (ap number e))
+
+  pub turn-left : (p : ℕ) (a : Answer) (j′ : List ℕ) → a ≡ turned (d .session) j x p → j′ ≡ turn-journal (d .session) j x p
+      → context-of (record { begun = d .begun; session = a .session }) j′ x ≡ after (context-of d j x) (turn p)
+  unfolding after
+  turn-left p a j′ e f =
+      chosen (d .begun) (left-with (context-of d j x) (turned (d .session) j x p .session) (turn-journal (d .session) j x p)) (context-of d j x) _ begun
+      (ap₂ (λ (b : Answer) (i : List ℕ). left-with (context-of d j x) (b .session) i) e f)
+
+  pub turn-text : (p : ℕ) (a : Answer) (b c : Buffer) → a ≡ turned (d .session) j x p → c ≡ add b (number (a .refusal)) → c ≡ add b (response (context-of d j x) (turn p))
+  unfolding response
+  turn-text p a b c e f = f ∙ ap (add b) (chosen (d .begun) (number (turned (d .session) j x p .refusal)) question-mark (number (a .refusal)) begun (ap (λ (y : Answer). number (y .refusal)) e))
+
+  pub turns-left : (ps : List ℕ) (r : Session) (j′ : List ℕ) → r ≡ classed (d .session) j x ps (zeros 512) (zeros 151552) .session
+      → j′ ≡ class-journal (d .session) j x ps (zeros 512) (zeros 151552)
+      → context-of (record { begun = d .begun; session = r }) j′ x ≡ after (context-of d j x) (turns ps)
+  unfolding after
+  turns-left ps r j′ e f =
+      chosen (d .begun)
+      (left-with (context-of d j x) (classed (d .session) j x ps (zeros 512) (zeros 151552) .session) (class-journal (d .session) j x ps (zeros 512) (zeros 151552)))
+      (context-of d j x) _ begun (ap₂ (λ (s : Session) (i : List ℕ). left-with (context-of d j x) s i) e f)
+
+  pub turns-text : (ps : List ℕ) (b c : Buffer) → c ≡ add b (class-text (d .session) j x ps) → c ≡ add b (response (context-of d j x) (turns ps))
+  unfolding response
+  turns-text ps b c f = f ∙ ap (add b) (chosen (d .begun) (class-text (d .session) j x ps) question-mark (class-text (d .session) j x ps) begun refl)
+
+-- ---- before a start has been accepted
+
+-- a line that is about a session
+abbrev pub OnSession : Ask → Type 0
+OnSession (plain c) = ⊥
+OnSession (script i c) = Unit {0}
+OnSession (turn p) = Unit {0}
+OnSession (turns ps) = Unit {0}
+OnSession view = Unit {0}
+OnSession chart = Unit {0}
+OnSession help = ⊥
+
+module _ (d : Shell) (j x : List ℕ) (none : d .begun ≡ false) where
+  pub early-left : (a : Ask) → OnSession a → context-of d j x ≡ after (context-of d j x) a
+  unfolding after
+  early-left (plain c) h = absurd h
+  early-left (script i c) h = passed-over (d .begun) _ (context-of d j x) (context-of d j x) none refl
+  early-left (turn p) h = passed-over (d .begun) _ (context-of d j x) (context-of d j x) none refl
+  early-left (turns ps) h = passed-over (d .begun) _ (context-of d j x) (context-of d j x) none refl
+  early-left view h = refl
+  early-left chart h = refl
+  early-left help h = absurd h
+
+  question : (a : Ask) → OnSession a → question-mark ≡ response (context-of d j x) a
+  unfolding response
+  question (plain c) h = absurd h
+  question (script i c) h = passed-over (d .begun) _ question-mark question-mark none refl
+  question (turn p) h = passed-over (d .begun) _ question-mark question-mark none refl
+  question (turns ps) h = passed-over (d .begun) _ question-mark question-mark none refl
+  question view h = passed-over (d .begun) _ question-mark question-mark none refl
+  question chart h = passed-over (d .begun) _ question-mark question-mark none refl
+  question help h = absurd h
+
+  pub early-text : (p : Buffer) (a : Ask) → OnSession a → add p question-mark ≡ add p (response (context-of d j x) a)
+  early-text p a h = ap (add p) (question a h)
+
+-- ---- what a line asks, where the buffer has room for its numbers
+
+pub asked-of : (a : Ask) (n : ℕ) (l : List ℕ) → 512 ≤ n → a ≡ ask-in n l → a ≡ ask-of l
+asked-of a n l h e = e ∙ rw (le-ltb n 512 h)

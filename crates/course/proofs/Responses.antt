@@ -1,0 +1,149 @@
+-- No response has more than 700,000 bytes, so the output begins with the whole of it.
+use Prim.Native.Nat.{ℕ, zero, suc, _*_, _≤_}
+use native.Mathlib.Omega.{arith}
+use mathlib.Core.Bool.{Bool, true, false, not, _||_, cond}
+use mathlib.Core.Path.{_≡_, refl, sym, ap, _∙_}
+use mathlib.Core.List.{List, [], _∷_}
+use lib.Dec.{lit≤, leb, ltb}
+use lib.ListN.{length, take, drop, length-append}
+use lib.Seq.{take-at, take-all, length-take-le}
+use borrow.Author.Tests.{le-leb, leb-true, leb-false, ltb-false, not-false}
+use Rattle.command.specs.Printing.{text, buffer-of, add}
+use Rattle.command.specs.Transcript.{Held}
+use Rattle.command.specs.Request.{Ask, plain, script, turn, turns, view, chart, help}
+use Rattle.command.specs.model.Request.{ask-of}
+use Rattle.command.specs.declared.line.Line.{Line}
+use Rattle.command.proofs.Lines.{decimal-length}
+use Rattle.command.proofs.Put.{hex-length}
+use Rattle.command.proofs.Held.{held-length}
+use Rattle.command.proofs.Grammar.{course-grammar-holds}
+use Rattle.command.proofs.Transcript.{printed, printed-fits}
+use Rattle.state.specs.declared.Session.{Session}
+use Rattle.state.specs.Rules.{state-ok, session-ok}
+use Rattle.reference.specs.Lists.{if-zero, in-range}
+use Rattle.reference.specs.Start.{Config, config-cause, start}
+use Rattle.reference.specs.Step.{Move}
+use Rattle.reference.specs.Cause.{accepted}
+use Rattle.reference.specs.Picture.{picture}
+use Rattle.reference.specs.Script.{turn-cause, turn-after}
+use Rattle.reference.specs.Session.{picture-size, state-of, lacks-room, replays}
+use Rattle.reference.proofs.Tests.{passed, both-left, both-right, range-true, true-range}
+use Rattle.reference.proofs.Script.{accepted-turn}
+use Rattle.shown.proofs.Kept.{Fields, state-kept, fields-say}
+use Rattle.session.specs.Contract.{config-of, standing, lent-refusal, matches}
+use Rattle.session.proofs.Answers.{lent-passed}
+use Rattle.session.proofs.Holding.{or-passed}
+use Rattle.session.proofs.Shown.{picture-long}
+use Rattle.turns.specs.Contract.{turned, class-refusal}
+use Rattle.shell.specs.Answers.{number, question-mark}
+use Rattle.shell.proofs.Responses as shell
+use Rattle.view.proofs.Sizes.{view-length}
+use Rattle.chart.proofs.Length.{chart-length}
+use Rattle.course.specs.Answers.{zeros, class-lines, class-text, help-text}
+use Rattle.script.specs.Contract.{set-refusal}
+use Rattle.course.proofs.Scripts.{zeros-long}
+use Rattle.course.specs.Program.{Context, response, after, course}
+
+number-length : (n : ℕ) → length (number n) ≤ 4
+number-length n = simp length-append (omega (arith, decimal-length n))
+
+-- ---- a class
+
+-- what the record says of its numbers, and that its start table is in range
+module _ (r : Session) (ok : session-ok r ≡ true) where
+  fields : Fields (r .state)
+  unfolding session-ok
+  fields = fields-say (r .state) (state-kept (r .state) (both-left (state-ok (r .state)) (in-range 1 (r .state .t) (r .initial)) ok) .fields)
+
+  right : config-cause (config-of r) ≡ 0
+  unfolding config-cause session-ok
+  right =
+      let f = fields in
+      let b = range-true 1 (r .state .t) (r .initial) (both-right (state-ok (r .state)) (in-range 1 (r .state .t) (r .initial)) ok) in
+      rw (
+        true-range 1 8 (r .state .p) (f .p-range .0) (f .p-range .1),
+        true-range 1 32 (r .state .t) (f .t-range .0) (f .t-range .1),
+        true-range 1 8 (r .state .m) (f .m-range .0) (f .m-range .1),
+        true-range 1 (r .state .t) (r .initial) (b .0) (b .1),
+        le-leb (r .state .stealing) 1 (f .stealing),
+      )
+
+  small : picture-size (config-of r) ≤ 296
+  small = let f = fields in omega (arith, f .p-range .1, f .t-range .1, f .m-range .1)
+
+lines-length : (c : Config) → config-cause c ≡ 0 → picture-size c ≤ 296 → (x ps : List ℕ) (ms : List Move) → accepted (start c) ms ≡ true → length (class-lines c x ms ps) ≤ 597 * length ps
+unfolding class-lines
+lines-length c e s x [] ms ok = omega arith
+lines-length c e s x (p ∷ ps) ms ok =
+    let on : List Move = turn-after c x ms p in
+    let ok′ = accepted-turn c x ms p ok in
+    let long = picture-long c on e ok′ in
+    simp length-append (omega (arith, decimal-length (turn-cause c x ms p), hex-length (picture (state-of c on)), lines-length c e s x ps on ok′))
+
+neither : (a b : Bool) → a || b ≡ false → a ≡ false
+neither true b e = e
+neither false b e = refl
+
+class-text-length : (r : Session) (j x ps : List ℕ) → length (class-text r j x ps) ≤ 305664
+unfolding class-text class-refusal matches replays
+class-text-length r j x ps = go (class-refusal r j x ps (zeros 512) (zeros 151552)) refl
+  where
+    go : (n : ℕ) → class-refusal r j x ps (zeros 512) (zeros 151552) ≡ n → length (if-zero n (class-lines (config-of r) x (standing r j) ps) (number n)) ≤ 305664
+    go zero e =
+        let first = or-passed (lent-refusal r (length j)) _ e in
+        let second = passed (lacks-room (config-of r) (length ps) (zeros 512) (zeros 151552)) _ _ (first .1) in
+        let third = passed (not (matches r j)) _ _ (second .1) in
+        let ok = lent-passed r (length j) (first .0) .1 in
+        let few : length ps ≤ 512 = omega (arith, ltb-false (length (zeros 512)) (length ps) (neither (ltb (length (zeros 512)) (length ps)) _ (second .0)), zeros-long 512) in
+        let legal = both-left (accepted (start (config-of r)) (standing r j)) _ (not-false _ (third .0)) in
+        omega (arith, lines-length (config-of r) (right r ok) (small r ok) x ps (standing r j) legal)
+    go (suc n) e = omega (arith, number-length (suc n))
+
+-- ---- any line
+
+choice-length : (t : Bool) (x y : List ℕ) → length x ≤ 700000 → length y ≤ 700000 → length (cond t x y) ≤ 700000
+choice-length true x y h k = h
+choice-length false x y h k = k
+
+help-length : length help-text ≤ 700000
+unfolding text
+help-length = lit≤ tt
+
+response-length : (k : Context) (a : Ask) → length (response k a) ≤ 700000
+unfolding response
+response-length k (plain c) = omega (arith, shell.response-length c (k .base))
+response-length k (script i c) = choice-length (k .base .begun) _ question-mark (omega (arith, number-length (set-refusal (k .base .session .state .t) (k .scripts) i c))) (omega arith)
+response-length k (turn p) = choice-length (k .base .begun) _ question-mark (omega (arith, number-length (turned (k .base .session) (k .base .journal) (k .scripts) p .refusal))) (omega arith)
+response-length k (turns ps) = choice-length (k .base .begun) _ question-mark (omega (arith, class-text-length (k .base .session) (k .base .journal) (k .scripts) ps)) (omega arith)
+response-length k view = choice-length (k .base .begun) _ question-mark (omega (arith, view-length (k .base .session .state))) (omega arith)
+response-length k chart = choice-length (k .base .begun) _ question-mark (omega (arith, chart-length (k .base .session) (k .base .journal))) (omega arith)
+response-length k help = help-length
+
+-- ---- a line that a buffer holds, and the response that the output begins with
+
+pub response-fits : (out out′ : List ℕ) (n : ℕ) (a : Ask) (k : Context) → 700000 ≤ length out → buffer-of out′ n ≡ add (buffer-of out 0) (response k a) → n ≤ length out′
+response-fits out out′ n a k h e = printed-fits out out′ (response k a) n e (omega (arith, response-length k a))
+
+-- a line that is too long shows by its first 1,025 bytes
+front-asks : (n : ℕ) (l : List ℕ) → 1025 ≤ n → ask-of (take n l) ≡ ask-of l
+front-asks n l h = go (leb (length l) n) refl
+  where
+    go : (t : Bool) → leb (length l) n ≡ t → ask-of (take n l) ≡ ask-of l
+    go true e = ap ask-of (take-all n l (leb-true (length l) n e))
+    go false e =
+        let k = leb-false (length l) n e in
+        course-grammar-holds .long (take n l) (omega (arith, length-take-le n l (omega arith))) ∙ sym (course-grammar-holds .long l (omega arith))
+
+held-asks : (l before : List ℕ) (line : Line) (bytes : List ℕ) → 1025 ≤ length bytes → Held l before line bytes → ask-of (take (line .len) bytes) ≡ ask-of l
+held-asks l before line bytes n h =
+    ap ask-of (ap (take (line .len)) (h .all) ∙ take-at (take (length before) l) (drop (line .len) before) (line .len) (sym (h .len)))
+    ∙ front-asks (length before) l (omega (arith, held-length l before line bytes h))
+
+pub responded : (out out′ : List ℕ) (n : ℕ) (line : Line) (before bytes : List ℕ) (k k′ : Context) → 700000 ≤ length out → 1025 ≤ length bytes
+    → k′ ≡ after k (ask-of (take (line .len) bytes)) → buffer-of out′ n ≡ add (buffer-of out 0) (response k (ask-of (take (line .len) bytes)))
+    → (l : List ℕ) → Held l before line bytes → (take n out′ ≡ course .response l k) × (k′ ≡ course .after l k)
+responded out out′ n line before bytes k k′ h b a e l w =
+    let q = held-asks l before line bytes b w in (
+      printed out out′ _ n e (omega (arith, response-length k (ask-of (take (line .len) bytes)))) ∙ ap (response k) q,
+      a ∙ ap (after k) q,
+    )

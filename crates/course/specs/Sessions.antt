@@ -1,0 +1,82 @@
+-- Whatever lines the program `course` reads, the session that it holds is one of demand 3 (Demand3 of claim/specs), so that its laws hold and its answers are
+-- the reference session's. `Sessions` is the statement; proofs/Sessions.antt proves it.
+-- Assumes nothing.
+use Prim.Native.Nat.{ℕ, _*_, _≤_, _<_}
+use mathlib.Core.Bool.{true}
+use mathlib.Core.List.{List, [], _∷_, _++_}
+use mathlib.Core.Path.{_≡_}
+use lib.Dec.{eqb}
+use lib.ListN.{length, take}
+use Rattle.command.specs.Printing.{hex, line-feed}
+use Rattle.command.specs.Transcript.{Run}
+use Rattle.command.specs.Request.{plain, turn, turns}
+use Rattle.command.specs.model.Request.{ask-of}
+use Rattle.command.specs.declared.Command.the-variants.{Move, Back, Show}
+use Rattle.state.specs.Association.{session-record}
+use Rattle.reference.specs.Refusal.{nothing-applied, refuse}
+use Rattle.reference.specs.State.{State}
+use Rattle.reference.specs.Start.{Config, config-cause, start}
+use Rattle.reference.specs.Step as step
+use Rattle.reference.specs.Cause.{cause, accepted}
+use Rattle.reference.specs.Safe.{Safe}
+use Rattle.reference.specs.Picture.{picture}
+use Rattle.reference.specs.Script.{turn-cause}
+use Rattle.reference.specs.Session.{table, Request, own, bytes, state-of, answer}
+use Rattle.claim.specs.Implementation.{contract}
+use Rattle.claim.specs.Demand3.{Event, Held, reply, gives, IsSession, opening, held-at-end}
+use Rattle.shell.specs.Answers.{number}
+use Rattle.course.specs.Answers.{class-lines}
+use Rattle.course.specs.Program.{Context, started-with, response, course}
+
+-- what the program holds after lines, one after the other
+unfoldable pub after-lines : Context → List (List ℕ) → Context
+after-lines k [] = k
+after-lines k (l ∷ ls) = after-lines (course .after l k) ls
+
+-- the session and the journal, as demand 3 has them
+abbrev pub held-by : Context → Held
+held-by k = record { session = k .base .session; journal = k .base .journal }
+
+-- a start table that is accepted, the journal's bytes at that time, and the events of a session from there that lead to what is held
+pub record InSession (h : Held) : Type 0 where
+  pub config : Config
+  pub first : List ℕ
+  pub events : List Event
+  pub begins : contract .begin (table config) first .refusal ≡ 0
+  pub is-session : IsSession contract (opening contract (table config) first) events
+  pub leads : held-at-end contract (table config) first events ≡ h
+
+-- what lines are answered where the moves `ms` stand
+pub record Answers (k : Context) (c : Config) (ms : List step.Move) : Type 0 where
+  pub to-move : (p a o : ℕ) → response k (plain (Move p a o)) ≡ number (cause (state-of c ms) (step.move-of p a o))
+  pub to-back : response k (plain Back) ≡ number (refuse (eqb (length ms) 0) nothing-applied 0)
+  pub to-show : response k (plain Show) ≡ hex (picture (state-of c ms)) ++ line-feed
+  pub to-turn : (p : ℕ) → response k (turn p) ≡ number (turn-cause c (k .scripts) ms p)
+  pub to-turns : (l ps : List ℕ) → ask-of l ≡ turns ps → response k (turns ps) ≡ class-lines c (k .scripts) ms ps
+
+-- what is held is that of a start table and a list of moves, each of them accepted; `n` and `m` are the lengths of the journal and of the scripts at first
+pub record Lawful (n m : ℕ) (k : Context) : Type 0 where
+  pub config : Config
+  pub moves : List step.Move
+  pub right : config-cause config ≡ 0
+  pub legal : accepted (start config) moves ≡ true
+  -- the record shows the moves' state, the journal begins with them, and the lengths stay;
+  pub state : k .base .session ≡ session-record (state-of config moves) (config .B)
+  pub standing : take (3 * length moves) (k .base .journal) ≡ bytes moves
+  pub size : length (k .base .journal) ≡ n
+  pub room : length (k .scripts) ≡ m
+  -- the laws hold;
+  pub safe : Safe config moves
+  -- a move, a turn, a class or a step back is answered as in the reference session,
+  pub replies : (q : Request) → reply (gives contract (held-by k) (record { request = q; lent = own })) ≡ answer config n moves (record { request = q; lent = own })
+  -- and with room for 4,000 moves and 32 scripts by its cause alone
+  pub answers : 12000 ≤ n → m ≡ 416 → Answers k config moves
+
+-- whatever is in the journal and the scripts at first, and whatever lines come, once a start has been accepted:
+pub record Sessions : Type 0 where
+  pub held : (j x : List ℕ) (ls : List (List ℕ)) → after-lines (started-with j x) ls .base .begun ≡ true → InSession (held-by (after-lines (started-with j x) ls))
+  pub lawful : (j x : List ℕ) (ls : List (List ℕ)) → after-lines (started-with j x) ls .base .begun ≡ true → Lawful (length j) (length x) (after-lines (started-with j x) ls)
+  -- so it is after any run
+  pub runs : (j x : List ℕ) (u : Run course (started-with j x)) → u .context .base .begun ≡ true → InSession (held-by (u .context)) × Lawful (length j) (length x) (u .context)
+  -- no cause is above 9, so that none of the numbers in `Answers` is 10, 15, 16 or 19
+  pub small : (s : State) (a : step.Move) → cause s a < 10

@@ -1,0 +1,225 @@
+// The response to one line: the session and the scripts that the program holds, and the text at the front of the output.
+ghost use mathlib.Core.Path.{_≡_};
+ghost use mathlib.Core.Bool.{true, false, cond};
+ghost use mathlib.Core.List.{List};
+ghost use Prim.Native.Nat.{ℕ, _≤_};
+ghost use lib.Dec.{eqb};
+ghost use lib.ListN.{length};
+ghost use Rattle.command.specs.Printing.{buffer-of, add};
+ghost use Rattle.command.specs.Request.{plain, script, turn, turns, view, chart, help, asked, count-in};
+ghost use Rattle.command.specs.model.Request.{ask-of};
+ghost use Rattle.session.specs.Contract.{table, started};
+ghost use Rattle.course.specs.Answers.{zeros};
+ghost use Rattle.course.specs.Program.{context-of, starts, response, after};
+use crate::class::class;
+use crate::help::put_help;
+use command::Command;
+use command::printing::number_line;
+use command::request::Request;
+use command::request::request_of;
+use shell::Reply;
+use shell::Shell;
+
+// All scripts become empty.
+fn clear(scripts: &mut [u8])
+    ensures { λ _. ⌜ now (scripts .exit) ≡ zeros (length (now (scripts .entry))) ⌝ }
+{
+    for i in 0..scripts.len() {
+        scripts[i] = 0;
+    }
+}
+
+fn clear_if(fresh: bool, scripts: &mut [u8])
+    ensures { λ _. ⌜ now (scripts .exit) ≡ cond fresh (zeros (length (now (scripts .entry)))) (now (scripts .entry)) ⌝ }
+{
+    if fresh {
+        clear(scripts);
+    }
+}
+
+fn accepted(p: u8, t: u8, m: u8, b: u8, stealing: u8) -> bool
+    ensures { λ r. ⌜ r ≡ eqb (started (table p t m b stealing) .refusal) 0 ⌝ }
+{
+    let answer = session::start(p, t, m, b, stealing);
+    answer.refusal == 0
+}
+
+// Whether a command is a start that is accepted.
+fn begins(command: Command) -> bool
+    ensures { λ r. ⌜ r ≡ starts command ⌝ }
+{
+    match command {
+        Command::Start(p, t, m, b) => accepted(p, t, m, b, 0),
+        Command::StartWith(p, t, m, b, stealing) => accepted(p, t, m, b, stealing),
+        Command::Move(p, a, o) => false,
+        Command::Back => false,
+        Command::Show => false,
+        Command::Unknown => false,
+    }
+}
+
+// A line of the stepper; an accepted start empties the scripts.
+fn stepper_line(
+    shell: Shell,
+    journal: &mut [u8],
+    scripts: &mut [u8],
+    command: Command,
+    out: &mut [u8],
+) -> Reply
+    ensures { λ r. ⌜ context-of (r .shell) (now (journal .exit)) (now (scripts .exit)) ≡ after (context-of shell (now (journal .entry)) (now (scripts .entry))) (plain command) ⌝ }
+    ensures { λ r. ⌜ buffer-of (now (out .exit)) (r .len) ≡ add (buffer-of (now (out .entry)) 0) (response (context-of shell (now (journal .entry)) (now (scripts .entry))) (plain command)) ⌝ }
+{
+    clear_if(begins(command), scripts);
+    shell::respond(shell, journal, command, out)
+}
+
+fn script_line(shell: Shell, scripts: &mut [u8], k: u8, calls: &[u8], out: &mut [u8]) -> Reply
+    requires { ⌜ shell .begun ≡ true ⌝ }
+    ensures { λ r. ⌜ ((j : List ℕ) → context-of (r .shell) j (now (scripts .exit)) ≡ after (context-of shell j (now (scripts .entry))) (script k (now (calls .entry)))) ⌝ }
+    ensures { λ r. ⌜ ((j : List ℕ) → buffer-of (now (out .exit)) (r .len) ≡ add (buffer-of (now (out .entry)) 0) (response (context-of shell j (now (scripts .entry))) (script k (now (calls .entry))))) ⌝ }
+{
+    let session = shell.session;
+    let state = session.state;
+    let refusal = script::set_script(state.t, scripts, k, calls);
+    let len = number_line(out, 0, refusal);
+    Reply { shell, len }
+}
+
+fn turn_line(shell: Shell, journal: &mut [u8], scripts: &[u8], p: u8, out: &mut [u8]) -> Reply
+    requires { ⌜ shell .begun ≡ true ⌝ }
+    ensures { λ r. ⌜ context-of (r .shell) (now (journal .exit)) (now (scripts .entry)) ≡ after (context-of shell (now (journal .entry)) (now (scripts .entry))) (turn p) ⌝ }
+    ensures { λ r. ⌜ buffer-of (now (out .exit)) (r .len) ≡ add (buffer-of (now (out .entry)) 0) (response (context-of shell (now (journal .entry)) (now (scripts .entry))) (turn p)) ⌝ }
+{
+    let session = shell.session;
+    let answer = turns::turn(session, journal, scripts, p);
+    let left = answer.session;
+    let mut next = shell;
+    next.session = left;
+    let len = number_line(out, 0, answer.refusal);
+    Reply { shell: next, len }
+}
+
+fn turns_line(
+    shell: Shell,
+    journal: &mut [u8],
+    scripts: &[u8],
+    processors: &[u8],
+    out: &mut [u8],
+) -> Reply
+    requires { ⌜ shell .begun ≡ true ⌝ }
+    ensures { λ r. ⌜ context-of (r .shell) (now (journal .exit)) (now (scripts .entry)) ≡ after (context-of shell (now (journal .entry)) (now (scripts .entry))) (turns (now (processors .entry))) ⌝ }
+    ensures { λ r. ⌜ buffer-of (now (out .exit)) (r .len) ≡ add (buffer-of (now (out .entry)) 0) (response (context-of shell (now (journal .entry)) (now (scripts .entry))) (turns (now (processors .entry)))) ⌝ }
+{
+    let session = shell.session;
+    let printed = class(session, journal, scripts, processors, out, 0);
+    let left = printed.session;
+    let mut next = shell;
+    next.session = left;
+    Reply {
+        shell: next,
+        len: printed.end,
+    }
+}
+
+fn view_line(shell: Shell, out: &mut [u8]) -> Reply
+    requires { ⌜ shell .begun ≡ true ⌝ }
+    ensures { λ r. ⌜ r .shell ≡ shell ⌝ }
+    ensures { λ r. ⌜ ((j x : List ℕ) → buffer-of (now (out .exit)) (r .len) ≡ add (buffer-of (now (out .entry)) 0) (response (context-of shell j x) view)) ⌝ }
+{
+    let session = shell.session;
+    let state = session.state;
+    let len = view::view(out, 0, state);
+    Reply { shell, len }
+}
+
+fn chart_line(shell: Shell, journal: &[u8], out: &mut [u8]) -> Reply
+    requires { ⌜ shell .begun ≡ true ⌝ }
+    ensures { λ r. ⌜ r .shell ≡ shell ⌝ }
+    ensures { λ r. ⌜ ((x : List ℕ) → buffer-of (now (out .exit)) (r .len) ≡ add (buffer-of (now (out .entry)) 0) (response (context-of shell (now (journal .entry)) x) chart)) ⌝ }
+{
+    let session = shell.session;
+    let len = chart::chart(out, 0, session, journal);
+    Reply { shell, len }
+}
+
+fn help_line(shell: Shell, out: &mut [u8]) -> Reply
+    ensures { λ r. ⌜ r .shell ≡ shell ⌝ }
+    ensures { λ r. ⌜ ((j x : List ℕ) → buffer-of (now (out .exit)) (r .len) ≡ add (buffer-of (now (out .entry)) 0) (response (context-of shell j x) help)) ⌝ }
+{
+    let len = put_help(out, 0);
+    Reply { shell, len }
+}
+
+// A line on a session that has begun.
+fn session_line(
+    shell: Shell,
+    journal: &mut [u8],
+    scripts: &mut [u8],
+    request: Request,
+    numbers: &[u8],
+    out: &mut [u8],
+) -> Reply
+    requires { ⌜ (shell .begun ≡ true) × (count-in request ≤ length (now numbers)) ⌝ }
+    ensures { λ r. ⌜ context-of (r .shell) (now (journal .exit)) (now (scripts .exit)) ≡ after (context-of shell (now (journal .entry)) (now (scripts .entry))) (asked request (now (numbers .entry))) ⌝ }
+    ensures { λ r. ⌜ buffer-of (now (out .exit)) (r .len) ≡ add (buffer-of (now (out .entry)) 0) (response (context-of shell (now (journal .entry)) (now (scripts .entry))) (asked request (now (numbers .entry)))) ⌝ }
+{
+    match request {
+        Request::Plain(c) => stepper_line(shell, journal, scripts, c, out),
+        Request::Script(k, n) => {
+            let end = n as usize;
+            script_line(shell, scripts, k, &numbers[..end], out)
+        }
+        Request::Turn(p) => turn_line(shell, journal, scripts, p, out),
+        Request::Turns(n) => {
+            let end = n as usize;
+            turns_line(shell, journal, scripts, &numbers[..end], out)
+        }
+        Request::View => view_line(shell, out),
+        Request::Chart => chart_line(shell, journal, out),
+        Request::Help => help_line(shell, out),
+    }
+}
+
+// A line before a start has been accepted: only those of the stepper and help are answered otherwise than by `?`.
+fn early_line(
+    shell: Shell,
+    journal: &mut [u8],
+    scripts: &mut [u8],
+    request: Request,
+    out: &mut [u8],
+) -> Reply
+    requires { ⌜ shell .begun ≡ false ⌝ }
+    ensures { λ r. ⌜ ((b : List ℕ) → context-of (r .shell) (now (journal .exit)) (now (scripts .exit)) ≡ after (context-of shell (now (journal .entry)) (now (scripts .entry))) (asked request b)) ⌝ }
+    ensures { λ r. ⌜ ((b : List ℕ) → buffer-of (now (out .exit)) (r .len) ≡ add (buffer-of (now (out .entry)) 0) (response (context-of shell (now (journal .entry)) (now (scripts .entry))) (asked request b))) ⌝ }
+{
+    match request {
+        Request::Plain(c) => stepper_line(shell, journal, scripts, c, out),
+        Request::Script(k, n) => shell::unknown(shell, out),
+        Request::Turn(p) => shell::unknown(shell, out),
+        Request::Turns(n) => shell::unknown(shell, out),
+        Request::View => shell::unknown(shell, out),
+        Request::Chart => shell::unknown(shell, out),
+        Request::Help => help_line(shell, out),
+    }
+}
+
+// One line: the output begins with its response. The numbers in it are put into `numbers`.
+pub fn respond(
+    shell: Shell,
+    journal: &mut [u8],
+    scripts: &mut [u8],
+    line: &[u8],
+    numbers: &mut [u8],
+    out: &mut [u8],
+) -> Reply
+    requires { ⌜ 512 ≤ length (now numbers) ⌝ }
+    ensures { λ r. ⌜ context-of (r .shell) (now (journal .exit)) (now (scripts .exit)) ≡ after (context-of shell (now (journal .entry)) (now (scripts .entry))) (ask-of (now (line .entry))) ⌝ }
+    ensures { λ r. ⌜ buffer-of (now (out .exit)) (r .len) ≡ add (buffer-of (now (out .entry)) 0) (response (context-of shell (now (journal .entry)) (now (scripts .entry))) (ask-of (now (line .entry)))) ⌝ }
+{
+    let request = request_of(line, numbers);
+    let begun = shell.begun;
+    if begun {
+        return session_line(shell, journal, scripts, request, numbers, out);
+    }
+    early_line(shell, journal, scripts, request, out)
+}

@@ -1,0 +1,2 @@
+-- What the lines of the stepper are answered.
+pub mod Answers

@@ -1,3 +1,0 @@
--- Models of the code, which only inner contracts cite: nobody needs to believe them.
-pub mod Buffer
-pub mod Piece

@@ -1,0 +1,3 @@
+-- A state as a table that a person reads.
+pub mod Words
+pub mod Table

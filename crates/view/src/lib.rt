@@ -1,0 +1,26 @@
+// A state as a table that a person reads.
+ghost use mathlib.Core.Path.{_≡_};
+ghost use Rattle.command.specs.Printing.{buffer-of, add};
+ghost use Rattle.view.specs.Table.{view-text};
+
+mod cells;
+mod lists;
+mod table;
+pub mod words;
+
+use command::printing::put;
+use command::printing::put_number;
+use state::State;
+use state::refusal::Refusal;
+
+// The table into the buffer behind its first `at` bytes, as much as fits; of a record that breaks a rule, 15. How many bytes count then.
+pub fn view(out: &mut [u8], at: usize, state: State) -> usize
+    ensures { λ r. ⌜ buffer-of (now (out .exit)) r ≡ add (buffer-of (now (out .entry)) at) (view-text state) ⌝ }
+{
+    let ok = rules::state_ok(state);
+    if ok {
+        return table::put_table(out, at, state);
+    }
+    let end = put_number(out, at, Refusal::BAD_RECORD);
+    put(out, end, b"\n")
+}
