@@ -1,16 +1,16 @@
 #!/bin/sh
-# Runs the line program on every session of a folder and compares what it writes, byte for byte.
-# Runs it on each again through pipes, a line at a time: each answer must come before the next line is sent (line_by_line.py).
-#   check_sessions.sh PROGRAM VECTORS      e.g. target/bin/stepper tests/vectors
+# Runs a line program on every session of the folders and compares what it writes, byte for byte: the input as a file; through a
+# pipe, each byte by its own write; and through pipes a line at a time, where each answer must come before the next line is sent
+# (line_by_line.py).
+#   check_sessions.sh PROGRAM FOLDER...      e.g. target/bin/stepper tests/vectors/sessions
 # Last line: 'N passed, M failed'. Exit status 0 if none failed, 1 if some did, 2 if there is nothing to run.
-if [ $# -ne 2 ] || [ ! -x "$1" ] || [ ! -d "$2" ]; then
-    echo "usage: $0 PROGRAM VECTORS" >&2
+if [ $# -lt 2 ] || [ ! -x "$1" ]; then
+    echo "usage: $0 PROGRAM FOLDER..." >&2
     exit 2
 fi
 program=$(realpath "$1")
-vectors=$2
+shift
 here=$(dirname "$(realpath "$0")")
-[ -d "$vectors/sessions" ] && vectors=$vectors/sessions
 out=$(mktemp) || exit 2
 trap 'rm -f "$out"' EXIT
 passed=0
@@ -25,20 +25,22 @@ count() { # STATUS NAME
     fi
 }
 
-by_line=yes
-for in in "$vectors"/*.in; do
-    [ -f "$in" ] || continue
-    want=${in%.in}.out
-    timeout 60 "$program" <"$in" >"$out" && cmp -s "$out" "$want"
-    same=$?
-    count $same "$in"
-    if [ $same -eq 0 ] && [ $by_line = yes ]; then
-        python3 "$here/line_by_line.py" "$program" "$in" "$want" || by_line=no
-        [ $by_line = yes ]
-        count $? "$in, a line at a time (the rest is not tried so)"
-    fi
+for folder in "$@"; do
+    for in in "$folder"/*.in; do
+        [ -f "$in" ] || continue
+        want=${in%.in}.out
+        timeout 60 "$program" <"$in" >"$out" && cmp -s "$out" "$want"
+        count $? "$in"
+        dd bs=1 status=none <"$in" | timeout 60 "$program" >"$out" && cmp -s "$out" "$want"
+        count $? "$in, a byte at a time"
+    done
 done
+[ "$passed" -gt 0 ] || exit 2
+if ! lines=$(python3 "$here/line_by_line.py" "$program" "$@"); then
+    failed=$((failed + 1))
+    echo "failed: a line at a time (what comes after the first failure is not tried so)" >&2
+fi
+passed=$((passed + ${lines:-0}))
 
 echo "$passed passed, $failed failed"
-[ $((passed + failed)) -gt 0 ] || exit 2
 [ "$failed" -eq 0 ]

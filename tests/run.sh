@@ -1,6 +1,7 @@
 #!/usr/bin/env bash
 # The tests from outside: builds the archive of crate exports, runs the C program over it, compares it with the independent
-# implementation, runs that one's own tests, and runs the line program on the stored sessions. All output is below target/.
+# implementation, runs that one's own tests, runs the line programs on the stored sessions, and compares course with the
+# independent one on random inputs. All output is below target/.
 # Its last line is 'N passed, M failed'. Needs the Rattle kit (rt), gcc, cargo, rustc and python3; no network.
 set -u -o pipefail
 cd "$(dirname "${BASH_SOURCE[0]}")/.." || exit 1
@@ -51,7 +52,13 @@ if run archive rt staticlib exports; then
     run differential cargo test --release --offline --locked --manifest-path tests/differential/Cargo.toml
 fi
 run independent cargo test --release --offline --locked --manifest-path tests/independent/Cargo.toml
-if run program rt check stepper; then run sessions sh tests/check_sessions.sh target/bin/stepper tests/vectors; fi
+if run programs rt check stepper course; then
+    run stepper-sessions sh tests/check_sessions.sh target/bin/stepper tests/vectors/sessions
+    # Course answers the stepper's lines alike.
+    run course-sessions sh tests/check_sessions.sh target/bin/course tests/vectors/course tests/vectors/sessions
+    run course-random timeout 300 cargo run --release --offline --locked --manifest-path tests/independent/Cargo.toml --bin compare -- \
+        target/bin/course 400 400 "$logs"
+fi
 
 echo "$passed passed, $failed failed"
 [ "$failed" -eq 0 ]

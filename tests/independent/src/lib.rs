@@ -15,20 +15,32 @@
 //! - `session`: the calls on a session record and a lent journal.
 //! - `script`: scripts, turns and classes.
 //! - `plain`: the plain session, ownership by history and the laws.
+//! - `lines`: what line programs share: lines, answers, numbers.
 //! - `program`: the line program.
+//! - `course`: the line program for people; `view` and `chart` are its tables.
 //! - `random`: random sessions from a seed.
 //! - `random_scripts`: random scripts and lists of turns.
+//! - `random_course`: random inputs for the program `course`.
+//! - `spelling`: commands as lines.
+//! - `slips`: lines that are no command of it.
 //! - `worked`: the worked sessions of document 01.
 
+pub mod chart;
+pub mod course;
+pub mod lines;
 pub mod machine;
 pub mod picture;
 pub mod plain;
 pub mod program;
 pub mod random;
+pub mod random_course;
 pub mod random_scripts;
 pub mod record;
 pub mod script;
 pub mod session;
+pub mod slips;
+pub mod spelling;
+pub mod view;
 pub mod worked;
 
 /// A value with the number of its refusal, 0 when accepted.

@@ -102,6 +102,11 @@ impl Position {
         Position::ALL.get(usize::from(number)).copied()
     }
 
+    /// The line's name.
+    pub fn name(self) -> String {
+        format!("{self:?}")
+    }
+
     /// Whether the current thread is nonzero here.
     pub fn has_current(self) -> bool {
         !matches!(self, CI2 | CI3 | L4 | L6 | L7 | L8 | L9 | L10 | Y3)

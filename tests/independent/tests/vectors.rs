@@ -6,7 +6,7 @@ use std::io::Write;
 use std::path::{Path, PathBuf};
 use std::process::{Command, Stdio};
 
-const FOLDERS: [&str; 4] = ["pictures", "sessions", "turns", "classes"];
+const FOLDERS: [&str; 5] = ["pictures", "sessions", "course", "turns", "classes"];
 
 fn stored() -> PathBuf {
     Path::new(env!("CARGO_MANIFEST_DIR")).join("../vectors")
@@ -35,18 +35,16 @@ fn stored_vectors_are_current() {
     for (name, content) in &new {
         assert!(old[name] == *content, "{name} differs");
     }
-    assert!(old.values().map(Vec::len).sum::<usize>() < 2_000_000);
+    assert!(old.values().map(Vec::len).sum::<usize>() < 4_500_000);
 }
 
-#[test]
-fn program_gives_stored_outputs() {
+/// Runs a program on the stored sessions of a folder.
+fn gives_stored_outputs(program: &str, folder: &str) {
     let all = files(&stored());
-    for (name, input) in all.iter().filter(|(name, _)| name.ends_with(".in")) {
-        let mut child = Command::new(env!("CARGO_BIN_EXE_program"))
-            .stdin(Stdio::piped())
-            .stdout(Stdio::piped())
-            .spawn()
-            .unwrap();
+    let is_input = |name: &str| name.starts_with(folder) && name.ends_with(".in");
+    for (name, input) in all.iter().filter(|(name, _)| is_input(name)) {
+        let mut child =
+            Command::new(program).stdin(Stdio::piped()).stdout(Stdio::piped()).spawn().unwrap();
         let mut stdin = child.stdin.take().unwrap();
         let input = input.clone();
         let writer = std::thread::spawn(move || stdin.write_all(&input).unwrap());
@@ -54,4 +52,16 @@ fn program_gives_stored_outputs() {
         writer.join().unwrap();
         assert!(output.stdout == all[&name.replace(".in", ".out")], "{name}");
     }
+}
+
+#[test]
+fn program_gives_stored_outputs() {
+    gives_stored_outputs(env!("CARGO_BIN_EXE_program"), "sessions/");
+}
+
+/// Those of the plain program too, whose lines it answers alike.
+#[test]
+fn course_gives_stored_outputs() {
+    gives_stored_outputs(env!("CARGO_BIN_EXE_course"), "course/");
+    gives_stored_outputs(env!("CARGO_BIN_EXE_course"), "sessions/");
 }

@@ -1,11 +1,12 @@
 //! Classes with the answers and the pictures that they must give.
 
-use crate::{field, table, Folder};
+use crate::{field, Folder};
 use independent::machine::{Config, State, CREATE, GO, LOCK, TRYLOCK, UNLOCK, YIELD};
 use independent::picture::{self, hex};
 use independent::random::Generator;
 use independent::script::{self, script, Call, SCRIPT};
 use independent::session::JOURNAL;
+use independent::spelling::table;
 use independent::worked::{self, Worked};
 use std::fmt::Write;
 use std::io;

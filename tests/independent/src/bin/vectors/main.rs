@@ -1,12 +1,12 @@
 //! Writes the test vectors into the folder given as argument.
 
 mod classes;
+mod course;
 mod pictures;
 mod sessions;
 mod states;
 mod turns;
 
-use independent::machine::Config;
 use independent::picture::hex;
 use std::path::{Path, PathBuf};
 use std::{env, fs, io};
@@ -36,13 +36,6 @@ pub fn field(bytes: &[u8]) -> String {
     }
 }
 
-/// A start table's numbers; the fifth is left out where it is 0.
-pub fn table(config: Config) -> String {
-    let Config { processors, threads, mutexes, born, stealing } = config;
-    let fifth = if stealing == 0 { String::new() } else { format!(" {stealing}") };
-    format!("{processors} {threads} {mutexes} {born}{fifth}")
-}
-
 fn main() -> io::Result<()> {
     let Some(root) = env::args_os().nth(1) else {
         eprintln!("usage: vectors FOLDER");
@@ -51,6 +44,7 @@ fn main() -> io::Result<()> {
     let root = Path::new(&root);
     pictures::write_all(&Folder::new(root, "pictures")?)?;
     sessions::write_all(&Folder::new(root, "sessions")?)?;
+    course::write_all(&Folder::new(root, "course")?)?;
     turns::write_all(&Folder::new(root, "turns")?)?;
     classes::write_all(&Folder::new(root, "classes")?)
 }

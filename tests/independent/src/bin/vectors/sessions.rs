@@ -1,44 +1,27 @@
 //! Scripts for the line program with the output it must give.
 
-use crate::{table, Folder};
+use crate::Folder;
 use independent::machine::{Config, State};
 use independent::program;
 use independent::random::{is_stuck, Call, Driver, Generator, Rates};
+use independent::spelling;
 use independent::worked::{self, Worked};
 use std::io;
 
-/// Joins lines, each ended by a line feed.
-fn script<T: AsRef<[u8]>>(lines: &[T]) -> Vec<u8> {
-    let mut bytes = Vec::new();
-    for line in lines {
-        bytes.extend(line.as_ref());
-        bytes.push(b'\n');
-    }
-    bytes
-}
-
-fn start_line(config: Config) -> String {
-    format!("start {}", table(config))
-}
-
-fn move_line([p, a, o]: [u8; 3]) -> String {
-    format!("move {p} {a} {o}")
-}
-
 /// The session with the picture after the start and after each move, then `more`.
 fn shown(worked: &Worked, more: &[&str]) -> Vec<u8> {
-    let mut lines = vec![start_line(worked.config), "show".to_string()];
+    let mut lines = vec![spelling::start(worked.config), "show".to_string()];
     for &made in &worked.moves {
-        lines.extend([move_line(made), "show".to_string()]);
+        lines.extend([spelling::make_move(made), "show".to_string()]);
     }
     lines.extend(more.iter().map(|line| line.to_string()));
-    script(&lines)
+    spelling::input(&lines)
 }
 
 fn random_session(config: Config, seed: u64, calls: usize, show_each: usize) -> Vec<u8> {
     let mut driver = Driver::new(seed, Rates { refused: 8, undo: 30 });
     let mut states = vec![State::start(config)];
-    let mut lines = vec![start_line(config)];
+    let mut lines = vec![spelling::start(config)];
     for call in 1..=calls {
         let state = &states[states.len() - 1];
         match driver.next_call(state) {
@@ -47,7 +30,7 @@ fn random_session(config: Config, seed: u64, calls: usize, show_each: usize) -> 
                 if next.try_move(made).is_ok() {
                     states.push(next);
                 }
-                lines.push(move_line(made));
+                lines.push(spelling::make_move(made));
             }
             Call::Undo => {
                 if states.len() > 1 {
@@ -61,11 +44,11 @@ fn random_session(config: Config, seed: u64, calls: usize, show_each: usize) -> 
         }
     }
     lines.push("show".to_string());
-    script(&lines)
+    spelling::input(&lines)
 }
 
 /// 4,000 accepted moves in which the machine never gets stuck, from the first seed that has them.
-fn busy_moves(config: Config) -> Vec<[u8; 3]> {
+pub fn busy_moves(config: Config) -> Vec<[u8; 3]> {
     let busy = |seed| {
         let mut driver = Driver::new(seed, Rates::ACCEPTED);
         let mut state = State::start(config);
@@ -87,9 +70,9 @@ fn busy_moves(config: Config) -> Vec<[u8; 3]> {
 fn most_moves() -> Vec<u8> {
     let config = Config::new(3, 6, 2, 4);
     let moves = busy_moves(config);
-    let mut lines = vec![start_line(config)];
+    let mut lines = vec![spelling::start(config)];
     for (count, &made) in (1..).zip(&moves) {
-        lines.push(move_line(made));
+        lines.push(spelling::make_move(made));
         if count % 400 == 0 {
             lines.push("show".to_string());
         }
@@ -97,12 +80,12 @@ fn most_moves() -> Vec<u8> {
     // The 4,001st: 2 and 3 come first, then 8 whatever the position.
     let mut add = |line: &str| lines.push(line.to_string());
     for p in 1..=3 {
-        add(&move_line([p, 0, 0]));
-        add(&move_line([p, 1, 1]));
-        add(&move_line([p, 3, 1]));
-        add(&move_line([p, 6, 1]));
-        add(&move_line([p, 7, 0]));
-        add(&move_line([p, 0, 1]));
+        add(&spelling::make_move([p, 0, 0]));
+        add(&spelling::make_move([p, 1, 1]));
+        add(&spelling::make_move([p, 3, 1]));
+        add(&spelling::make_move([p, 6, 1]));
+        add(&spelling::make_move([p, 7, 0]));
+        add(&spelling::make_move([p, 0, 1]));
     }
     for line in ["move 0 0 0", "move 4 0 0", "show"] {
         add(line);
@@ -112,19 +95,19 @@ fn most_moves() -> Vec<u8> {
         add("show");
     }
     for &made in &moves[3_992..] {
-        add(&move_line(made));
+        add(&spelling::make_move(made));
     }
     add("show");
-    add(&move_line(moves[3_999]));
+    add(&spelling::make_move(moves[3_999]));
     add("back");
-    add(&move_line(moves[3_999]));
+    add(&spelling::make_move(moves[3_999]));
     add("move 1 0 0");
     add("show");
-    script(&lines)
+    spelling::input(&lines)
 }
 
 fn refusals() -> Vec<u8> {
-    script(&[
+    spelling::input(&[
         // 1
         "start 0 1 1 1",
         "start 1 0 1 1",
@@ -308,7 +291,7 @@ fn odd_lines() -> Vec<u8> {
     lines.extend(["start 2 2 2 2".to_string(), "move 1 1 1".to_string(), "show".to_string()]);
     lines.extend(odd.map(str::to_string));
     lines.extend(["show", "move 255 255 255", "move 1 0 0", "back", "show"].map(str::to_string));
-    script(&lines)
+    spelling::input(&lines)
 }
 
 /// Fifth numbers of a start: taken, refused, and lines that are no command.
@@ -324,7 +307,7 @@ fn fifth_numbers() -> Vec<u8> {
         lines.extend(["0", "1", "2"].map(|fifth| format!("start {table} {fifth}")));
     }
     lines.push("show".to_string());
-    script(&lines)
+    spelling::input(&lines)
 }
 
 fn long_lines() -> Vec<u8> {
@@ -353,7 +336,7 @@ fn long_lines() -> Vec<u8> {
     }
     lines.push(b"move 1 1 1".to_vec());
     lines.push(b"show".to_vec());
-    script(&lines)
+    spelling::input(&lines)
 }
 
 fn any_bytes() -> Vec<u8> {
@@ -373,7 +356,7 @@ fn any_bytes() -> Vec<u8> {
     lines.push(vec![0; 65]);
     lines.push(vec![255; 65]);
     lines.push(b"show".to_vec());
-    script(&lines)
+    spelling::input(&lines)
 }
 
 /// A line of every length from 0 to 70, random bytes of the commands' letters.
@@ -385,18 +368,18 @@ fn noise() -> Vec<u8> {
         lines.push((0..length).map(|_| generator.pick(letters)).collect());
     }
     lines.push(b"show".to_vec());
-    script(&lines)
+    spelling::input(&lines)
 }
 
 /// Each of the first n moves, then all of them back and one more.
 fn there_and_back(worked: &Worked) -> Vec<u8> {
-    let mut lines = vec![start_line(worked.config)];
-    lines.extend(worked.moves.iter().map(|&made| move_line(made)));
+    let mut lines = vec![spelling::start(worked.config)];
+    lines.extend(worked.moves.iter().map(|&made| spelling::make_move(made)));
     for _ in 0..=worked.moves.len() {
         lines.extend(["show".to_string(), "back".to_string()]);
     }
     lines.push("show".to_string());
-    script(&lines)
+    spelling::input(&lines)
 }
 
 /// Whole inputs that are not just ended lines.
@@ -424,10 +407,10 @@ fn endings() -> Vec<(&'static str, Vec<u8>)> {
 fn fixed() -> Vec<(&'static str, Vec<u8>)> {
     let owned = Worked::new(Config::new(2, 2, 1, 2)).call(1, 1, 1).go(1, 1);
     vec![
-        ("example", script(&["start 1 1 1 1", "show"])),
-        ("k1", script(&["start 8 32 8 32", "show"])),
-        ("k2", script(&["start 9 32 8 32", "show"])),
-        ("k3", script(&["start 8 32 8 0", "show"])),
+        ("example", spelling::input(&["start 1 1 1 1", "show"])),
+        ("k1", spelling::input(&["start 8 32 8 32", "show"])),
+        ("k2", spelling::input(&["start 9 32 8 32", "show"])),
+        ("k3", spelling::input(&["start 8 32 8 0", "show"])),
         ("k4", shown(&worked::k4(), &[])),
         ("k5", shown(&worked::k5(), &[])),
         ("k6", shown(&worked::k6(), &[])),
@@ -436,7 +419,7 @@ fn fixed() -> Vec<(&'static str, Vec<u8>)> {
         ("k9", shown(&owned, &["move 2 3 1", "show"])),
         (
             "before-start",
-            script(&[
+            spelling::input(&[
                 "show",
                 "back",
                 "move 1 0 0",
@@ -453,7 +436,7 @@ fn fixed() -> Vec<(&'static str, Vec<u8>)> {
         ),
         (
             "start-again",
-            script(&[
+            spelling::input(&[
                 "start 1 2 1 2",
                 "move 1 4 0",
                 "move 1 0 0",

@@ -1,0 +1,174 @@
+//! The line program for people: the lines of `program`, answered alike, and `script`, `turn`,
+//! `turns`, `view`, `chart`, `help`. An answer for people has several lines, the last one empty.
+
+use crate::chart::chart;
+use crate::lines::{self, number, words, LineProgram};
+use crate::machine::{Move, CREATE, LOCK, MOST_THREADS};
+use crate::picture;
+use crate::program::{self, Program};
+use crate::record::Record;
+use crate::script::{self, Call, MOST_CALLS, SCRIPT};
+use crate::session;
+use crate::view::view;
+
+/// The bytes of all scripts.
+const SCRIPTS: usize = SCRIPT * MOST_THREADS as usize;
+
+const HELP: &str = "\
+start P T M B    begin a session: processors, threads, mutexes, threads created at first
+start P T M B S  the same with the choice of ready queues: 0 a single one, 1 one for each processor
+move p a o       processor p: 0 go, 1 lock, 2 trylock, 3 unlock mutex o, 4 yield, 5 exit, 6 create thread o
+back             step back
+show             the picture in hexadecimal
+script k a o ..  the script of thread k: up to 6 calls, each an action and an operand
+turn p           a turn of processor p, by its thread's script
+turns p p ..     turns one after the other: for each its answer, then the picture
+view             the state as a table
+chart            the moves that stand, a column for each processor
+help             these lines
+";
+
+enum Command {
+    Plain(program::Command),
+    Script(u8, Vec<Call>),
+    Turn(u8),
+    Turns(Vec<u8>),
+    View,
+    Chart,
+    Help,
+}
+
+fn parse(line: &[u8]) -> Option<Command> {
+    let words = words(line);
+    match words[..] {
+        [b"script", thread, ref pairs @ ..] => {
+            Some(Command::Script(number(thread)?, calls(&numbers(pairs)?)?))
+        }
+        [b"turn", p] => Some(Command::Turn(number(p)?)),
+        [b"turns", _, ..] => Some(Command::Turns(numbers(&words[1..])?)),
+        [b"view"] => Some(Command::View),
+        [b"chart"] => Some(Command::Chart),
+        [b"help"] => Some(Command::Help),
+        _ => program::Command::parse(line).map(Command::Plain),
+    }
+}
+
+fn numbers(words: &[&[u8]]) -> Option<Vec<u8>> {
+    words.iter().map(|word| number(word)).collect()
+}
+
+/// Numbers as calls; none if one is left over.
+fn calls(numbers: &[u8]) -> Option<Vec<Call>> {
+    let pairs = numbers.chunks_exact(2);
+    pairs.remainder().is_empty().then(|| pairs.map(|pair| [pair[0], pair[1]]).collect())
+}
+
+/// The plain program with its session, and the scripts.
+pub struct Course {
+    program: Program,
+    scripts: [u8; SCRIPTS],
+}
+
+impl Default for Course {
+    fn default() -> Self {
+        Course { program: Program::default(), scripts: [0; SCRIPTS] }
+    }
+}
+
+impl LineProgram for Course {
+    const LONGEST_LINE: usize = 1_024;
+
+    /// What is for people has a line feed at each line's end, so that the one that ends the
+    /// answer makes an empty line.
+    fn command(&mut self, line: &[u8]) -> Option<String> {
+        match parse(line)? {
+            Command::Plain(command) => self.plain(command),
+            Command::Script(thread, calls) => self.script(thread, &calls),
+            Command::Turn(p) => self.turn(p),
+            Command::Turns(turns) => self.turns(&turns),
+            Command::View => Some(view(&self.record()?.state()?)),
+            Command::Chart => self.chart(),
+            Command::Help => Some(HELP.to_string()),
+        }
+    }
+}
+
+impl Course {
+    /// The session, if a start was accepted.
+    pub fn record(&self) -> Option<&Record> {
+        self.program.record()
+    }
+
+    /// An accepted start empties all scripts.
+    fn plain(&mut self, command: program::Command) -> Option<String> {
+        if let program::Command::Start(config) = command {
+            let number = self.program.start(config);
+            if number == 0 {
+                self.scripts = [0; SCRIPTS];
+            }
+            return Some(number.to_string());
+        }
+        self.program.obey(command)
+    }
+
+    /// Refused by 3, 19.
+    fn script(&mut self, thread: u8, calls: &[Call]) -> Option<String> {
+        let threads = self.record()?.config().threads;
+        let number = if !(1..=threads).contains(&thread) {
+            3
+        } else if !is_script(calls) {
+            19
+        } else {
+            let at = SCRIPT * (usize::from(thread) - 1);
+            self.scripts[at..at + SCRIPT].copy_from_slice(&script::script(calls));
+            0
+        };
+        Some(number.to_string())
+    }
+
+    fn turn(&mut self, p: u8) -> Option<String> {
+        let (record, journal) = self.program.session()?;
+        let turned = script::turn(record, journal, &self.scripts, p);
+        *record = turned.value;
+        Some(turned.number.to_string())
+    }
+
+    /// For each turn its number and, on a line of its own, the picture after it.
+    fn turns(&mut self, turns: &[u8]) -> Option<String> {
+        let (record, journal) = self.program.session()?;
+        let shown = &record.snapshot;
+        let length = picture::length(shown.processors, shown.threads, shown.mutexes);
+        let mut answers = vec![0; turns.len()];
+        let mut pictures = vec![0; turns.len() * length];
+        let class =
+            script::class(record, journal, &self.scripts, turns, &mut answers, &mut pictures);
+        if !class.is_accepted() {
+            return Some(class.number.to_string());
+        }
+        *record = class.value;
+        let both = answers.iter().zip(pictures.chunks_exact(length));
+        let lines = both.map(|(answer, picture)| format!("{answer}\n{}", picture::hex(picture)));
+        Some(lines.collect::<Vec<_>>().join("\n"))
+    }
+
+    fn chart(&mut self) -> Option<String> {
+        let (record, journal) = self.program.session()?;
+        let front = session::front(record, journal).value;
+        let moves: Vec<Move> =
+            front.chunks_exact(3).map(|made| [made[0], made[1], made[2]]).collect();
+        Some(chart(record.config(), &moves))
+    }
+}
+
+fn is_script(calls: &[Call]) -> bool {
+    calls.len() <= usize::from(MOST_CALLS)
+        && calls.iter().all(|[action, _]| (LOCK..=CREATE).contains(action))
+}
+
+/// Cuts input into lines and answers each.
+pub type Reader = lines::Reader<Course>;
+
+/// All output for a whole input.
+pub fn run(input: &[u8]) -> String {
+    lines::run::<Course>(input)
+}

@@ -1,0 +1,44 @@
+//! Commands as lines of input.
+
+use crate::machine::{Config, Move};
+
+/// Lines as input, each ended by a line feed.
+pub fn input<T: AsRef<[u8]>>(lines: &[T]) -> Vec<u8> {
+    lines.iter().flat_map(|line| [line.as_ref(), b"\n"].concat()).collect()
+}
+
+/// A start table's numbers; the fifth is left out where it is 0.
+pub fn table(config: Config) -> String {
+    let Config { processors, threads, mutexes, born, stealing } = config;
+    let fifth = if stealing == 0 { String::new() } else { format!(" {stealing}") };
+    format!("{processors} {threads} {mutexes} {born}{fifth}")
+}
+
+pub fn start(config: Config) -> String {
+    format!("start {}", table(config))
+}
+
+pub fn make_move([p, a, o]: Move) -> String {
+    format!("move {p} {a} {o}")
+}
+
+/// The line for a script's bytes.
+pub fn script(thread: u8, script: &[u8]) -> String {
+    let calls = &script[1..][..2 * usize::from(script[0])];
+    format!("script {thread}{}", numbers(calls))
+}
+
+/// The lines for all scripts, thread 1 first.
+pub fn scripts(config: Config, scripts: &[u8]) -> Vec<String> {
+    let each = scripts.chunks_exact(crate::script::SCRIPT);
+    (1..=config.threads).zip(each).map(|(thread, bytes)| script(thread, bytes)).collect()
+}
+
+pub fn turns(turns: &[u8]) -> String {
+    format!("turns{}", numbers(turns))
+}
+
+/// Each number after a space.
+pub fn numbers(numbers: &[u8]) -> String {
+    numbers.iter().map(|number| format!(" {number}")).collect()
+}
