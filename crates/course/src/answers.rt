@@ -204,7 +204,7 @@ fn early_line(
 }
 
 // One line: the output begins with its response. The numbers in it are put into `numbers`.
-pub fn respond(
+pub(crate) fn respond(
     shell: Shell,
     journal: &mut [u8],
     scripts: &mut [u8],
