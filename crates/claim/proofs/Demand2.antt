@@ -7,7 +7,7 @@ use mathlib.Core.Path.{_≡_, refl, subst}
 use native.Mathlib.Omega.{arith}
 use lib.Dec.{ltb}
 use lib.ListN.{length, take}
-use borrow.Author.Tests.{eq-eqb, le-ltb, not-false}
+use borrow.Author.Tests.{eq-eqb, le-ltb}
 use Rattle.state.specs.declared.State.{State as Record}
 use Rattle.state.specs.declared.Session.{Session}
 use Rattle.state.specs.Association.{encode, decode}
@@ -23,14 +23,14 @@ use Rattle.reference.specs.Break.{step-breaks}
 use Rattle.reference.specs.Safe.{In}
 use Rattle.reference.specs.Session.{short}
 use Rattle.reference.specs.Picture.{picture}
-use Rattle.reference.proofs.Tests.{passed}
 use Rattle.shown.proofs.Decode.{decode-encode, encode-ok}
 use Rattle.shown.proofs.Unique.{encode-sized, one-to-one, session-held, session-record-ok}
 use Rattle.agreement.proofs.Moved.{not-refused}
 use Rattle.agreement.proofs.Fields.{next-allowed}
 use Rattle.picture.specs.Picture.{picture-length, write-refusal, written, read}
 use Rattle.picture.proofs.Formula.{meaning-ahead}
-use Rattle.picture.proofs.RoundTrip.{picture-reads, fields-sized, read-keeps, read-pictures, picture-size, written-reads, read-writes}
+use Rattle.picture.proofs.RoundTrip.{picture-reads, fields-sized, read-keeps, read-pictures, written-reads, read-writes}
+use Rattle.picture.proofs.Written.{picture-size}
 use Rattle.session.specs.Contract.{shown, or-later, lent-refusal, move-refusal, moved, journal-after}
 use Rattle.session.proofs.Answers.{lent-passed}
 use Rattle.session.proofs.Holding.{or-passed}
@@ -80,25 +80,17 @@ module _ (r : Record) (z : Sized r) where
       contract .write r b ≡ record { refusal = 0; buffer = with-front b (picture (decode r)) }
   unfolding written
   writes e b h =
-      let l = picture-size r z e in
+      let l = picture-size r in
       let g : write-refusal r (length b) ≡ 0 = rw (e, le-ltb (length b) (picture-length r) (omega arith)) in
       let w : written r b ≡ with-front b (picture (decode r)) = rw (g, l) in
       λ i. record { refusal = g i; buffer = w i }
 
   write-number : (b : List ℕ) →
       write-refusal r (length b) ≡ refuse (not (state-ok r)) bad-record (refuse (ltb (length b) (length (picture (decode r)))) too-short 0)
-  write-number b = by (state-ok r) (picture-size r z)
-    where
-      by : (ok : Bool) → (ok ≡ true → length (picture (decode r)) ≡ picture-length r) →
-          refuse (not ok) bad-record (refuse (ltb (length b) (picture-length r)) too-short 0) ≡
-          refuse (not ok) bad-record (refuse (ltb (length b) (length (picture (decode r)))) too-short 0)
-      by true l = rw (l refl)
-      by false l = refl
+  write-number b = rw (picture-size r)
 
   reads-back : (b : List ℕ) → write-refusal r (length b) ≡ 0 → read (take (length (picture (decode r))) (written r b)) ≡ record { refusal = 0; state = r }
-  reads-back b e =
-      let k : state-ok r ≡ true = not-false (state-ok r) (passed (not (state-ok r)) _ _ e .0) in
-      rw (picture-size r z k) (written-reads r z b e)
+  reads-back b e = rw (picture-size r) (written-reads r z b e)
 
 read-sized : (b : List ℕ) → read b .refusal ≡ 0 → Sized (read b .state)
 unfolding read

@@ -5,45 +5,19 @@ use mathlib.Core.Bool.{Bool, true, false, not}
 use mathlib.Core.List.{List}
 use mathlib.Core.Path.{_≡_, refl, sym, ap, _∙_}
 use native.Mathlib.Omega.{arith}
-use lib.Dec.{ltb, eqb}
-use lib.ListN.{length}
 use Rattle.picture.specs.declared.answer.Read.{Read}
 use Rattle.picture.specs.declared.answer.Ahead.{Ahead}
 use Rattle.picture.specs.declared.answer.Ahead.the-variants.{Turns, NotWaiting, Refused}
-use Rattle.picture.specs.Picture.{Bytes, byte, fields, picture-length, zero-bytes-ok, read-refusal, read}
+use Rattle.picture.specs.Picture.{Bytes, byte, fields, read-refusal, read}
 use Rattle.picture.specs.Turns.{waits-for, turns-ahead, ahead}
 use Rattle.picture.proofs.RoundTrip.{read-keeps}
 use Rattle.state.specs.declared.State.{State as Record}
 use Rattle.state.specs.Association.{decode}
-use Rattle.state.specs.Rules.{sizes-ok, fields-ok, chains-ok, holders-ok, broken-rule, state-ok}
+use Rattle.state.specs.Rules.{state-ok}
 use Rattle.reference.specs.Refusal.{refuse}
 use Rattle.reference.specs.Lists.{if-zero, in-range}
+use Rattle.picture.proofs.Numbers.{read-number}
 use Rattle.exports.specs.Turns.{number-of, ahead-refusal, ahead-answer}
-
--- ---- reading
-
-pub read-number : (b : List ℕ) (r : Read) → r ≡ read b → r .refusal ≡ read-refusal b
-unfolding read
-read-number b r e = ap (λ (x : Read). x .refusal) e
-
-refuse-most : (t : Bool) (n later most : ℕ) → n ≤ most → later ≤ most → refuse t n later ≤ most
-refuse-most true n later most h i = h
-refuse-most false n later most h i = i
-
--- no number over 14
-pub read-most : (b : List ℕ) → read-refusal b ≤ 14
-unfolding read-refusal broken-rule
-read-most b =
-    let r = fields b in
-    let broken : broken-rule r ≤ 14 =
-    refuse-most (not (fields-ok r)) _ _ 14 (omega arith)
-    (refuse-most (not (chains-ok r)) _ _ 14 (omega arith) (refuse-most (not (holders-ok r)) _ _ 14 (omega arith) (omega arith)))
-    in
-    refuse-most (ltb (length b) 8) _ _ 14 (omega arith)
-    (refuse-most (not (sizes-ok r)) _ _ 14 (omega arith)
-    (refuse-most (not (eqb (length b) (picture-length r))) _ _ 14 (omega arith) (refuse-most (not (zero-bytes-ok b)) _ _ 14 (omega arith) broken)))
-
--- ---- turns ahead
 
 pub picture-refused : (b : List ℕ) (k n : ℕ) → n ≡ read-refusal b → (n ≡ 0 → ⊥) → 200 + n ≡ ahead-answer b k
 unfolding ahead-answer ahead-refusal
@@ -80,9 +54,13 @@ module _ (b : List ℕ) (w : Bytes b) (r : Read) (is : r ≡ read b) (right : r 
   pub refused-most : (n : ℕ) → Refused n ≡ ahead (r .state) k → n ≤ 3
   unfolding ahead-refusal turns-ahead
   refused-most n e =
-      by (ahead-refusal b k) (rw number (refuse-most (not (in-range 1 (byte b 1) k)) 3 0 3 (omega arith) (omega arith)))
+      by (ahead-refusal b k) (rw number (small (not (in-range 1 (byte b 1) k))))
       (e ∙ ap (λ (x : Record). ahead x k) state-is ∙ ahead-is)
     where
+      small : (t : Bool) → refuse t 3 0 ≤ 3
+      small true = omega arith
+      small false = omega arith
+
       never : (m t : ℕ) → Refused n ≡ if-zero m NotWaiting (Turns t) → ⊥
       never zero t h = let z : _≡_ {A = ℕ} 0 1 = cc in omega arith
       never (suc m) t h = let z : _≡_ {A = ℕ} 0 1 = cc in omega arith

@@ -14,9 +14,8 @@ use Rattle.state.specs.declared.State.{State as Record}
 use Rattle.state.specs.Association.{encode, decode}
 use Rattle.state.specs.Rules.{state-ok}
 use Rattle.shown.proofs.Decode.{decode-encode, encode-ok}
-use Rattle.shown.proofs.Unique.{encode-sized}
 use Rattle.picture.specs.Picture.{picture-length, write-refusal, written}
-use Rattle.picture.proofs.RoundTrip.{picture-size}
+use Rattle.picture.proofs.Written.{picture-size}
 use Rattle.reference.specs.Lists.{if-zero}
 use Rattle.reference.specs.State.{State}
 use Rattle.reference.specs.Start.{Config, config-cause}
@@ -72,7 +71,7 @@ module _ (c : Config) (moves buffer : List ℕ) where
       right-state = encode-ok end (f .allowed)
 
       long : picture-length (encode end) ≡ length (picture end)
-      long = sym (picture-size (encode end) (encode-sized end) right-state) ∙ ap (λ (s : State). length (picture s)) shown
+      long = sym (picture-size (encode end)) ∙ ap (λ (s : State). length (picture s)) shown
 
       number-end : write-refusal (encode end) (length buffer) ≡ replay-refusal c moves (length buffer)
       unfolding replay-refusal

@@ -8,5 +8,6 @@ pub mod ReadBack
 pub mod WriteBack
 pub mod Written
 pub mod Reading
+pub mod Numbers
 pub mod Formula
 pub mod RoundTrip

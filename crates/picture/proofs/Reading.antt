@@ -14,6 +14,7 @@ use Rattle.state.specs.declared.Thread.{Thread}
 use Rattle.state.specs.declared.State.{State}
 use Rattle.state.specs.Record.{zero-thread, zero-state, thread-of, first-of}
 use Rattle.state.specs.Rules.{sizes-ok, fields-ok, chains-in, chains-ok, holders-ok, broken-rule}
+use Rattle.state.proofs.Branch.{if-some}
 use Rattle.rules.specs.model.Bytes.{thread-in-bytes}
 use Rattle.reference.specs.Refusal.{refuse}
 use Rattle.reference.specs.Lists.{if-zero, in-range}
@@ -25,18 +26,13 @@ use Rattle.picture.specs.model.Parts.{fields-with, zeros-with, shape-ref
 
 -- ---- the parts of the reader
 
-module _ {A : Type 0} where
-  other-picks : (n : ℕ) (a b : A) → (n ≡ 0 → ⊥) → if-zero n a b ≡ b
-  other-picks zero a b h = absurd (h refl)
-  other-picks (suc n) a b h = refl
-
 module _ (b part : List ℕ) (s : State) (n : ℕ) (x : s ≡ fields-with b part) (e : n ≡ rule-refusal b part s) where
   same-number : n ≡ rule-refusal b part (fields-with b part)
   same-number = e ∙ ap (rule-refusal b part) x
 
   pub parts-refused : (n ≡ 0 → ⊥) → refused-with n ≡ read-with b part
   unfolding read-with
-  parts-refused h = rw (← same-number) (sym (other-picks n (record { refusal = 0; state = fields-with b part }) (refused-with n) h))
+  parts-refused h = rw (← same-number) (sym (if-some n (record { refusal = 0; state = fields-with b part }) (refused-with n) h))
 
   pub parts-read : n ≡ 0 → record { refusal = 0; state = s } ≡ read-with b part
   unfolding read-with
@@ -101,7 +97,7 @@ module _ (b : List ℕ) where
       let e : read-refusal b ≡ shape-refusal b =
       three (ltb (length b) 8) (not (sizes-ok (fields b))) (not (eqb (length b) (picture-length (fields b)))) 11 12 11 (refuse (not (zero-bytes-ok b)) 12 (broken-rule (fields b))) h
       in
-      (λ i. record { refusal = sym e i; state = (sym (other-picks (shape-refusal b) (fields b) zero-state h) ∙ ap (λ (n : ℕ). if-zero n (fields b) zero-state) (sym e)) i })
+      (λ i. record { refusal = sym e i; state = (sym (if-some (shape-refusal b) (fields b) zero-state h) ∙ ap (λ (n : ℕ). if-zero n (fields b) zero-state) (sym e)) i })
 
   module _ (e : shape-refusal b ≡ 0) where
     pub record Shape : Type 0 where

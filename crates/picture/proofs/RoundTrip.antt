@@ -7,7 +7,6 @@ use mathlib.Core.Path.{_≡_, refl, ap, sym, subst, _∙_}
 use native.Mathlib.Omega.{arith}
 use lib.Dec.{eqb, ltb}
 use lib.ListN.{length, getD, take, drop}
-use lib.Seq.{take-at}
 use borrow.Author.Tests.{eqb-true, eq-eqb, le-ltb, not-false}
 use Rattle.state.specs.declared.State.{State}
 use Rattle.state.specs.Record.{zero-thread, zero-processor, zero-mutex, Sized}
@@ -24,6 +23,7 @@ use Rattle.picture.specs.model.Parts.{record-bytes}
 use Rattle.picture.proofs.Records.{record-length, record-picture}
 use Rattle.picture.proofs.ReadBack.{fields-back, zeros-back}
 use Rattle.picture.proofs.WriteBack.{Whole, bytes-back}
+use Rattle.picture.proofs.Written.{picture-size, written-front}
 
 -- ---- a record that keeps the rules
 
@@ -132,15 +132,9 @@ module _ (b : List ℕ) where
 
 -- ---- over the functions that the contracts name
 
-pub picture-size : (r : State) → Sized r → state-ok r ≡ true → length (picture (decode r)) ≡ picture-length r
-picture-size r z e = ap length (sym (record-picture r z e)) ∙ record-length r
-
 -- a picture that was written into a buffer reads back to the state that was written
 pub written-reads : (r : State) → Sized r → (buffer : List ℕ) → write-refusal r (length buffer) ≡ 0 → read (take (picture-length r) (written r buffer)) ≡ record { refusal = 0; state = r }
-unfolding written
-written-reads r z buffer e =
-    let k : state-ok r ≡ true = not-false (state-ok r) (passed (not (state-ok r)) _ _ e .0) in
-    rw (e, take-at (picture (decode r)) (drop (picture-length r) buffer) (picture-length r) (picture-size r z k)) (picture-reads r z k)
+written-reads r z buffer e = rw (written-front r buffer e) (picture-reads r z (not-false (state-ok r) (passed (not (state-ok r)) _ _ e .0)))
 
 -- bytes that read are written back, in front of the buffer's later bytes
 pub read-writes : (b : List ℕ) → Bytes b → read b .refusal ≡ 0 → (buffer : List ℕ) → length b ≤ length buffer →
@@ -149,7 +143,6 @@ unfolding written
 read-writes b w e buffer h =
     let k = read-keeps b w e in
     let p = read-pictures b w e in
-    let z : Sized (read b .state) = read-sized b e in
-    let l : length b ≡ picture-length (read b .state) = ap length (sym p) ∙ picture-size (read b .state) z k in
+    let l : length b ≡ picture-length (read b .state) = ap length (sym p) ∙ picture-size (read b .state) in
     let g : write-refusal (read b .state) (length buffer) ≡ 0 = rw (k, le-ltb (length buffer) (picture-length (read b .state)) (omega arith)) in
     (g, rw (g, p, ← l))

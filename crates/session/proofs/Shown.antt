@@ -21,9 +21,9 @@ use Rattle.reference.proofs.Start.{ranges}
 use Rattle.reference.proofs.Laws.{sized}
 use Rattle.shown.proofs.Decode.{decode-encode, encode-ok}
 use Rattle.shown.proofs.Reached.{reached-allowed}
-use Rattle.shown.proofs.Unique.{session-record-ok, encode-sized}
+use Rattle.shown.proofs.Unique.{session-record-ok}
 use Rattle.picture.specs.Picture.{picture-length, write-refusal, written}
-use Rattle.picture.proofs.RoundTrip as picture
+use Rattle.picture.proofs.Written as writing
 
 module _ (c : Config) (ms : List Move) (right : config-cause c ≡ 0) (ok : accepted (start c) ms ≡ true) where
   allowed : Allowed (state-of c ms)
@@ -45,7 +45,7 @@ module _ (c : Config) (ms : List Move) (right : config-cause c ≡ 0) (ok : acce
   length-is = let z = sized c ms in omega (arith, z .0, z .1, z .2)
 
   pub picture-long : length (picture (state-of c ms)) ≡ picture-size c
-  picture-long = rw state-back at (picture.picture-size (encode (state-of c ms)) (encode-sized (state-of c ms)) state-right) ∙ length-is
+  picture-long = rw state-back at (writing.picture-size (encode (state-of c ms))) ∙ length-is
 
   module _ (b : List ℕ) (room : picture-size c ≤ length b) where
     pub fits : write-refusal (encode (state-of c ms)) (length b) ≡ 0

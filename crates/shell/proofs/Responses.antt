@@ -17,7 +17,7 @@ use Rattle.state.specs.Association.{decode}
 use Rattle.reference.specs.Picture.{picture}
 use Rattle.picture.specs.Picture.{write-refusal}
 use Rattle.shell.specs.Answers.{Context, number, question-mark, picture-text, response}
-use Rattle.shell.proofs.PictureText.{room, long}
+use Rattle.picture.proofs.Written.{room-for, picture-size}
 
 number-length : (n : ℕ) → length (number n) ≤ 593
 number-length n = simp length-append (omega (arith, decimal-length n))
@@ -33,7 +33,7 @@ picture-text-length r = go (eqb (write-refusal r 296) 0) refl
     go : (t : Bool) → eqb (write-refusal r 296) 0 ≡ t → length (cond t (hex (picture (decode r)) ++ line-feed) (number (write-refusal r 296))) ≤ 593
     go true e =
         let z = eqb-true (write-refusal r 296) 0 e in
-        simp length-append (omega (arith, hex-length (picture (decode r)), long r, room r z))
+        simp length-append (omega (arith, hex-length (picture (decode r)), picture-size r, room-for r 296 z))
     go false e = number-length (write-refusal r 296)
 
 pub response-length : (c : Command) (k : Context) → length (response c k) ≤ 593

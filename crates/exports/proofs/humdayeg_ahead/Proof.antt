@@ -4,7 +4,8 @@ use mathlib.Core.Path.{sym, _∙_}
 use native.Mathlib.Omega.{arith}
 use borrow.Author.Needs.{needs}
 use Rattle.picture.specs.declared.answer.Ahead.the-variants.{Turns, NotWaiting, Refused}
-use Rattle.exports.proofs.Ahead.{read-number, read-most, picture-refused, number-of-is, refused-most}
+use Rattle.picture.proofs.Numbers.{read-number, read-most}
+use Rattle.exports.proofs.Ahead.{picture-refused, number-of-is, refused-most}
 use Rattle.exports.proofs.humdayeg_ahead.Statement.{statement}
 use Rattle.exports.proofs.humdayeg_ahead.Tie as tie
 

@@ -1,7 +1,7 @@
 -- `exports::humdayeg_read` meets its contract.
 -- Assumes nothing.
 use borrow.Author.Needs.{needs}
-use Rattle.exports.proofs.Ahead.{read-number}
+use Rattle.picture.proofs.Numbers.{read-number}
 use Rattle.exports.proofs.humdayeg_read.Statement.{statement}
 use Rattle.exports.proofs.humdayeg_read.Tie as tie
 

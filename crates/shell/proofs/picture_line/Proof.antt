@@ -4,7 +4,8 @@ use native.Mathlib.Omega.{arith}
 use mathlib.Core.List.{List}
 use Prim.Native.Nat.{ℕ}
 use Rattle.command.specs.Printing.{buffer-of, add}
-use Rattle.shell.proofs.PictureText.{room, counted, picture-printed, refusal-printed}
+use Rattle.picture.proofs.Written.{room-for}
+use Rattle.shell.proofs.PictureText.{counted, picture-printed, refusal-printed}
 use borrow.Author.Needs.{needs}
 use Rattle.shell.proofs.picture_line.Statement.{statement}
 use Rattle.shell.proofs.picture_line.Tie as tie
@@ -13,7 +14,7 @@ array-share-prefix-bytes : tie.Need-array-share-prefix-bytes
 array-share-prefix-bytes c =
     let w = c .before .before .before in
     let l = w .before .before in
-    let h = room (l .before .before .args .state) (sym (w .write .ensures .0) ∙ c .before .if1 .taken) in
+    let h = room-for (l .before .before .args .state) 296 (sym (w .write .ensures .0) ∙ c .before .if1 .taken) in
     omega (arith, l .picture-bytes .ensures, w .write .kept .1 .0)
 
 slice-aggregate-hex-line : tie.Need-slice-aggregate-hex-line
