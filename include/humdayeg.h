@@ -166,6 +166,30 @@ uint8_t humdayeg_read(const uint8_t *picture, size_t picture_len);
 
 uint8_t humdayeg_ahead(const uint8_t *picture, size_t picture_len, uint8_t thread);
 
+/*
+ * The mark of a candidate's picture against the machine's.
+ *
+ * machine: machine_len bytes, a picture. Its sizes say where the records are.
+ * candidate: candidate_len bytes, as many as the machine's; they may have any values.
+ *
+ * A record whose bytes are all equal in both earns 5 points for a processor, 3 for a mutex and 2
+ * for a thread. The header earns none, right or wrong.
+ *
+ * Answers, the first that is there:
+ *     HUMDAYEG_MARK_REFUSED + n      humdayeg_read answers n, 11 to 14, for the machine's picture
+ *     HUMDAYEG_MARK_REFUSED + 11     candidate_len is not machine_len
+ *     0 to HUMDAYEG_FULL_MARK        the mark in hundredths: the points earned as a part of all
+ *                                    points, times 10,000, rounded down. It is the full mark
+ *                                    exactly if all records are equal.
+ * From HUMDAYEG_MARK_REFUSED on an answer is a refusal; subtracting it gives the number. A mark is
+ * shown by printf("%u.%02u", mark / 100u, mark % 100u): 8823 as 88.23.
+ */
+#define HUMDAYEG_FULL_MARK 10000
+#define HUMDAYEG_MARK_REFUSED 20000
+
+uint16_t humdayeg_mark(const uint8_t *machine, size_t machine_len,
+                       const uint8_t *candidate, size_t candidate_len);
+
 #ifdef __cplusplus
 }
 #endif

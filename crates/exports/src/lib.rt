@@ -3,6 +3,7 @@ ghost use mathlib.Core.Path.{_≡_};
 ghost use lib.ListN.{length};
 ghost use Rattle.session.specs.Contract.{table};
 ghost use Rattle.picture.specs.Picture.{read-refusal};
+ghost use Rattle.mark.specs.Mark.{answer};
 ghost use Rattle.exports.specs.Replay.{replay-refusal, replay-place, replay-buffer};
 ghost use Rattle.exports.specs.Turns.{ahead-answer};
 ghost use Rattle.exports.specs.Class.{class-number, class-answered, class-pictured};
@@ -16,6 +17,9 @@ use picture::answer::Ahead;
 const NOT_WAITING: u8 = 100;
 
 const REFUSED: u8 = 200;
+
+// What a refusal's number is added to where a mark is asked for.
+const MARK_REFUSED: u16 = 20000;
 
 // Replays moves, three bytes each, from a start table and writes the picture of the state that they lead to: 1, the number of the first refused move
 // with its place, counted from 1, or 10, else 0. Refused, no byte of the picture is written. Where no move is refused the place is 0.
@@ -143,4 +147,17 @@ pub extern "C" fn humdayeg_class_with(
     let mut journal = [0u8; 12000];
     let done = turns::class(session, &mut journal, scripts, turns, answers, pictures);
     done.refusal
+}
+
+// The mark of a candidate's picture against the machine's: 0 to 10,000 in hundredths, or 20,000 plus the number of a refusal.
+#[no_mangle]
+pub extern "C" fn humdayeg_mark(machine: &[u8], candidate: &[u8]) -> u16
+    ensures { λ r. ⌜ r ≡ answer (now (machine .entry)) (now (candidate .entry)) ⌝ }
+{
+    let found = mark::mark(machine, candidate);
+    let bad = found.refusal;
+    if bad != 0 {
+        return MARK_REFUSED + bad as u16;
+    }
+    found.mark
 }
