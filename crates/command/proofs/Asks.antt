@@ -9,18 +9,20 @@ use mathlib.Core.List.{List, [], _∷_, _++_, append-nil}
 use lib.Dec.{eqb, leb, ltb}
 use lib.ListN.{length, getD, drop, length-append, drop-of-length-le}
 use lib.Seq.{drop-append-seam, drop-append-add, drop-drop}
-use borrow.Author.Tests.{lt-ltb, le-ltb, ltb-true, ltb-false, leb-true, eq-eqb, eqb-true}
+use borrow.Author.Tests.{lt-ltb, le-ltb, ltb-true, ltb-false, leb-true, eq-eqb, ne-eqb, eqb-true}
 use Rattle.command.specs.declared.Command.{Command}
 use Rattle.command.specs.declared.Command.the-variants.{Start, StartWith, Move, Back, Show, Unknown}
 use Rattle.command.specs.declared.reading.Field.{Field}
 use Rattle.command.specs.Printing.{decimal}
 use Rattle.command.specs.Command.{field, spell, Known}
-use Rattle.command.specs.Request.{Ask, plain, script, turn, turns, view, chart, help, script-word, turn-word, turns-word, view-word, chart-word, help-word, fields, spell-ask, Bytes, KnownAsk}
+use Rattle.command.specs.Request.{Ask, plain, script, turn, turns, view, chart, mark, mark-own, help, script-word, turn-word, turns-word, view-word, chart-word, mark-word, help-word, fields, hex-field, spell-ask, Bytes, KnownAsk}
+use Rattle.command.specs.model.Hex.{hex-bytes}
 use Rattle.command.specs.model.Reading.{is-digit, field-of, field-at, starts, command-of}
-use Rattle.command.specs.model.Request.{values, left, listed, unknown, calls-in, script-from, script-line, turns-from, turns-line, turn-line, is-word, short-line, ask-of}
+use Rattle.command.specs.model.Request.{values, left, listed, unknown, calls-in, script-from, script-line, turns-from, turns-line, turn-line, first-hex, second-hex, mark-from, mark-line, is-word, short-line, ask-of}
 use Rattle.command.proofs.Laws.{both}
 use Rattle.command.proofs.Fields.{field-spelled, field-only}
 use Rattle.command.proofs.Lines.{Written, no-digit, field-positive, field-length, starts-front, word-only, spelled-read, read, spell-length}
+use Rattle.command.proofs.Digits.{hex-end, hex-then, hex-field-length, Shown, hex-only}
 use Rattle.command.proofs.Listed.{values-more, left-more, values-none, left-none}
 
 -- ---- a list of fields
@@ -104,13 +106,13 @@ script-spelled k ns h =
     let f = field-spelled k (fields ns) (h .0) (head-digit ns) in
     let d : drop (6 + length (field k)) l ≡ fields ns = drop-append-add script-word (field k ++ fields ns) (length (field k)) ∙ drop-append-seam (field k) (fields ns) in
     let n : length l ≡ 6 + (length (field k) + length (fields ns)) = simp length-append (omega arith) in
-    let w = fields-spelled 512 ns (h .1) (omega (arith, h .3, n, fields-wide ns)) in
+    let w = fields-spelled 1024 ns (h .1) (omega (arith, h .3, n, fields-wide ns)) in
     rw (f, d, w .numbers, w .rest, lt-ltb 0 (length (field k)) (field-positive k), eq-eqb (length ns % 2) 0 (h .2))
 
 turns-spelled : (ps : List ℕ) → KnownAsk (turns ps) → turns-line (spell-ask (turns ps)) ≡ turns ps
 unfolding spell-ask turns-line turns-from listed
 turns-spelled ps h =
-    let w = fields-spelled 512 ps (h .0) (omega (arith, h .2, fields-wide ps)) in
+    let w = fields-spelled 1024 ps (h .0) (omega (arith, h .2, fields-wide ps)) in
     rw (w .numbers, w .rest, lt-ltb 0 (length ps) (h .1))
 
 turn-spelled : (p : ℕ) → p ≤ 255 → turn-line (spell-ask (turn p)) ≡ turn p
@@ -120,12 +122,30 @@ turn-spelled p h =
     let n : 4 + length (field p) ≡ length (turn-word ++ field p) = omega arith in
     rw (f, lt-ltb 0 (length (field p)) (field-positive p), eq-eqb _ _ n)
 
+mark-own-spelled : (c : List ℕ) → KnownAsk (mark-own c) → mark-line (spell-ask (mark-own c)) ≡ mark-own c
+unfolding spell-ask mark-line mark-from first-hex
+mark-own-spelled c h =
+    let n : 5 + 2 * length c ≡ length (mark-word ++ hex-field c) = omega (arith, hex-field-length c) in
+    rw (hex-end c (h .0), lt-ltb 0 (length c) (h .1), eq-eqb _ _ n)
+
+mark-spelled : (b c : List ℕ) → KnownAsk (mark b c) → mark-line (spell-ask (mark b c)) ≡ mark b c
+unfolding spell-ask mark-line mark-from first-hex second-hex
+mark-spelled b c h =
+    let l = mark-word ++ (hex-field b ++ hex-field c) in
+    let f = hex-then b c (h .0 .0) in
+    let k = hex-field-length b in
+    let m : 5 + 2 * length b ≡ 4 + length (hex-field b) = omega arith in
+    let d : drop (5 + 2 * length b) l ≡ hex-field c = rw m (drop-append-add mark-word (hex-field b ++ hex-field c) (length (hex-field b)) ∙ drop-append-seam (hex-field b) (hex-field c)) in
+    let n : length l ≡ 6 + 2 * length b + 2 * length c = simp length-append (omega (arith, hex-field-length c)) in
+    let o : 5 + 2 * length b ≡ length l → ⊥ = λ e. omega arith in
+    rw (f, d, hex-end c (h .1 .0), lt-ltb 0 (length b) (h .0 .1), lt-ltb 0 (length c) (h .1 .1), ne-eqb _ _ o, eq-eqb _ _ (sym n))
+
 -- the stepper's lines begin with none of the words
 plain-spelled : (c : Command) → Known c → ask-of (spell c) ≡ plain (command-of (spell c))
 unfolding ask-of short-line is-word starts spell
-plain-spelled (Start p t m b) h = rw (le-ltb 1024 (length (spell (Start p t m b))) (omega (arith, spell-length (Start p t m b))))
-plain-spelled (StartWith p t m b c) h = rw (le-ltb 1024 (length (spell (StartWith p t m b c))) (omega (arith, spell-length (StartWith p t m b c))))
-plain-spelled (Move p a o) h = rw (le-ltb 1024 (length (spell (Move p a o))) (omega (arith, spell-length (Move p a o))))
+plain-spelled (Start p t m b) h = rw (le-ltb 2048 (length (spell (Start p t m b))) (omega (arith, spell-length (Start p t m b))))
+plain-spelled (StartWith p t m b c) h = rw (le-ltb 2048 (length (spell (StartWith p t m b c))) (omega (arith, spell-length (StartWith p t m b c))))
+plain-spelled (Move p a o) h = rw (le-ltb 2048 (length (spell (Move p a o))) (omega (arith, spell-length (Move p a o))))
 plain-spelled Back h = refl
 plain-spelled Show h = refl
 plain-spelled Unknown h = absurd h
@@ -133,11 +153,13 @@ plain-spelled Unknown h = absurd h
 pub spelled-asked : (a : Ask) → KnownAsk a → ask-of (spell-ask a) ≡ a
 unfolding ask-of short-line is-word starts spell-ask field
 spelled-asked (plain c) h = plain-spelled c h ∙ ap plain (spelled-read c h)
-spelled-asked (script k ns) h = rw (le-ltb 1024 (length (spell-ask (script k ns))) (h .3)) (script-spelled k ns h)
-spelled-asked (turn p) h = rw (le-ltb 1024 (length (spell-ask (turn p))) (omega (arith, field-length p))) (turn-spelled p h)
-spelled-asked (turns ps) h = rw (le-ltb 1024 (length (spell-ask (turns ps))) (h .2)) (turns-spelled ps h)
+spelled-asked (script k ns) h = rw (le-ltb 2048 (length (spell-ask (script k ns))) (h .3)) (script-spelled k ns h)
+spelled-asked (turn p) h = rw (le-ltb 2048 (length (spell-ask (turn p))) (omega (arith, field-length p))) (turn-spelled p h)
+spelled-asked (turns ps) h = rw (le-ltb 2048 (length (spell-ask (turns ps))) (h .2)) (turns-spelled ps h)
 spelled-asked view h = refl
 spelled-asked chart h = refl
+spelled-asked (mark b c) h = rw (le-ltb 2048 (length (spell-ask (mark b c))) (h .2)) (mark-spelled b c h)
+spelled-asked (mark-own c) h = rw (le-ltb 2048 (length (spell-ask (mark-own c))) (h .2)) (mark-own-spelled c h)
 spelled-asked help h = refl
 
 -- ---- an ask that is read is spelled
@@ -161,7 +183,7 @@ none (x ∷ l) e = let w : ⊥ = omega (arith, leb-true (length (x ∷ l)) 0 e) 
 after-word : (w l tail : List ℕ) → starts w l ≡ true → drop (length w) l ≡ tail → l ≡ w ++ tail
 after-word w l tail s e = starts-front w l s ∙ ap (λ (x : List ℕ). w ++ x) e
 
-script-only : (l : List ℕ) → length l ≤ 1024 → starts script-word l ≡ true → Reads l (script-line l)
+script-only : (l : List ℕ) → length l ≤ 2048 → starts script-word l ≡ true → Reads l (script-line l)
 unfolding script-line script-from listed calls-in spell-ask
 script-only l h s = either _ go (λ _. inl refl)
   where
@@ -169,30 +191,30 @@ script-only l h s = either _ go (λ _. inl refl)
     k = field-at (drop 6 l)
 
     ns : List ℕ
-    ns = values 512 (calls-in l)
+    ns = values 1024 (calls-in l)
 
-    go : (ltb 0 (k .width) && leb (length (left 512 (calls-in l))) 0 && eqb (length ns % 2) 0) ≡ true → Reads l (script (k .value) ns)
+    go : (ltb 0 (k .width) && leb (length (left 1024 (calls-in l))) 0 && eqb (length ns % 2) 0) ≡ true → Reads l (script (k .value) ns)
     go e =
-        let p = both (ltb 0 (k .width) && leb (length (left 512 (calls-in l))) 0) (eqb (length ns % 2) 0) e in
-        let q = both (ltb 0 (k .width)) (leb (length (left 512 (calls-in l))) 0) (p .0) in
+        let p = both (ltb 0 (k .width) && leb (length (left 1024 (calls-in l))) 0) (eqb (length ns % 2) 0) e in
+        let q = both (ltb 0 (k .width)) (leb (length (left 1024 (calls-in l))) 0) (p .0) in
         let f = field-only (drop 6 l) (ltb-true 0 (k .width) (q .0)) in
-        let r = fields-only 512 (calls-in l) (none (left 512 (calls-in l)) (q .1)) in
+        let r = fields-only 1024 (calls-in l) (none (left 1024 (calls-in l)) (q .1)) in
         let line = after-word script-word l (field (k .value) ++ fields ns) s (f .front ∙ ap (λ (x : List ℕ). field (k .value) ++ x) (drop-drop (k .width) 6 l ∙ r .line)) in
-        inr (record { line = line; known = (f .small, r .small, eqb-true (length ns % 2) 0 (p .1), subst (λ (x : List ℕ). length x ≤ 1024) line h) })
+        inr (record { line = line; known = (f .small, r .small, eqb-true (length ns % 2) 0 (p .1), subst (λ (x : List ℕ). length x ≤ 2048) line h) })
 
-turns-only : (l : List ℕ) → length l ≤ 1024 → starts turns-word l ≡ true → Reads l (turns-line l)
+turns-only : (l : List ℕ) → length l ≤ 2048 → starts turns-word l ≡ true → Reads l (turns-line l)
 unfolding turns-line turns-from listed spell-ask
 turns-only l h s = either _ go (λ _. inl refl)
   where
     ps : List ℕ
-    ps = values 512 (drop 5 l)
+    ps = values 1024 (drop 5 l)
 
-    go : (leb (length (left 512 (drop 5 l))) 0 && ltb 0 (length ps)) ≡ true → Reads l (turns ps)
+    go : (leb (length (left 1024 (drop 5 l))) 0 && ltb 0 (length ps)) ≡ true → Reads l (turns ps)
     go e =
-        let p = both (leb (length (left 512 (drop 5 l))) 0) (ltb 0 (length ps)) e in
-        let r = fields-only 512 (drop 5 l) (none (left 512 (drop 5 l)) (p .0)) in
+        let p = both (leb (length (left 1024 (drop 5 l))) 0) (ltb 0 (length ps)) e in
+        let r = fields-only 1024 (drop 5 l) (none (left 1024 (drop 5 l)) (p .0)) in
         let line = after-word turns-word l (fields ps) s (r .line) in
-        inr (record { line = line; known = (r .small, ltb-true 0 (length ps) (p .1), subst (λ (x : List ℕ). length x ≤ 1024) line h) })
+        inr (record { line = line; known = (r .small, ltb-true 0 (length ps) (p .1), subst (λ (x : List ℕ). length x ≤ 2048) line h) })
 
 turn-only : (l : List ℕ) → starts turn-word l ≡ true → Reads l (turn-line l)
 unfolding turn-line spell-ask
@@ -213,6 +235,45 @@ turn-only l s = either _ go (λ _. inl refl)
           known = f .small;
         })
 
+-- behind the word and what is shown there
+behind-shown : (l b : List ℕ) (n : ℕ) → Shown (drop n l) b → drop n l ≡ hex-field b ++ drop (n + (1 + 2 * length b)) l
+behind-shown l b n f = f .front ∙ ap (λ (x : List ℕ). hex-field b ++ x) (drop-drop (1 + 2 * length b) n l)
+
+mark-only : (l : List ℕ) → length l ≤ 2048 → starts mark-word l ≡ true → Reads l (mark-line l)
+unfolding mark-line mark-from first-hex second-hex spell-ask
+mark-only l h s = either _ own (λ _. either _ two (λ _. inl refl))
+  where
+    b : List ℕ
+    b = hex-bytes (drop 4 l)
+
+    c : List ℕ
+    c = hex-bytes (drop (5 + 2 * length b) l)
+
+    own : (ltb 0 (length b) && eqb (5 + 2 * length b) (length l)) ≡ true → Reads l (mark-own b)
+    own e =
+        let p = both (ltb 0 (length b)) (eqb (5 + 2 * length b) (length l)) e in
+        let k = ltb-true 0 (length b) (p .0) in
+        let n = eqb-true (5 + 2 * length b) (length l) (p .1) in
+        let f = hex-only (drop 4 l) k in
+        let end : drop (4 + (1 + 2 * length b)) l ≡ [] = drop-of-length-le l {i = 4 + (1 + 2 * length b)} (omega arith) in
+        let line = after-word mark-word l (hex-field b) s (behind-shown l b 4 f ∙ rw (end, append-nil)) in
+        inr (record { line = line; known = (f .small, k, subst (λ (x : List ℕ). length x ≤ 2048) line h) })
+
+    two : (ltb 0 (length b) && ltb 0 (length c) && eqb (6 + 2 * length b + 2 * length c) (length l)) ≡ true → Reads l (mark b c)
+    two e =
+        let p = both (ltb 0 (length b) && ltb 0 (length c)) (eqb (6 + 2 * length b + 2 * length c) (length l)) e in
+        let q = both (ltb 0 (length b)) (ltb 0 (length c)) (p .0) in
+        let j = ltb-true 0 (length b) (q .0) in
+        let k = ltb-true 0 (length c) (q .1) in
+        let n = eqb-true (6 + 2 * length b + 2 * length c) (length l) (p .1) in
+        let f = hex-only (drop 4 l) j in
+        let g = hex-only (drop (5 + 2 * length b) l) k in
+        let m : 4 + (1 + 2 * length b) ≡ 5 + 2 * length b = omega arith in
+        let end : drop (5 + 2 * length b + (1 + 2 * length c)) l ≡ [] = drop-of-length-le l {i = 5 + 2 * length b + (1 + 2 * length c)} (omega arith) in
+        let tail : drop (5 + 2 * length b) l ≡ hex-field c = behind-shown l c (5 + 2 * length b) g ∙ rw (end, append-nil) in
+        let line = after-word mark-word l (hex-field b ++ hex-field c) s (behind-shown l b 4 f ∙ ap (λ (x : List ℕ). hex-field b ++ x) (rw m tail)) in
+        inr (record { line = line; known = ((f .small, j), (g .small, k), subst (λ (x : List ℕ). length x ≤ 2048) line h) })
+
 is-only : (w l : List ℕ) → is-word w l ≡ true → l ≡ w
 unfolding is-word
 is-only w l e = let p = both (starts w l) (eqb (length l) (length w)) e in word-only w l (sym (eqb-true (length l) (length w) (p .1))) (p .0)
@@ -228,10 +289,11 @@ plain-only l = go (read l)
 pub asked-read : (l : List ℕ) → Reads l (ask-of l)
 unfolding ask-of short-line spell-ask
 asked-read l =
-    either _ (λ _. inl refl) (λ n. let h = ltb-false 1024 (length l) n in
+    either _ (λ _. inl refl) (λ n. let h = ltb-false 2048 (length l) n in
     either _ (script-only l h) (λ _.
     either _ (turns-only l h) (λ _.
+    either _ (mark-only l h) (λ _.
     either _ (turn-only l) (λ _.
     either _ (λ e. inr (record { line = is-only view-word l e; known = tt })) (λ _.
     either _ (λ e. inr (record { line = is-only chart-word l e; known = tt })) (λ _.
-    either _ (λ e. inr (record { line = is-only help-word l e; known = tt })) (λ _. plain-only l)))))))
+    either _ (λ e. inr (record { line = is-only help-word l e; known = tt })) (λ _. plain-only l))))))))

@@ -9,7 +9,7 @@ use borrow.Author.Tests.{lt-ltb}
 use Rattle.command.specs.declared.Command.{Command}
 use Rattle.command.specs.declared.Command.the-variants.{Start, StartWith, Move, Back, Show, Unknown}
 use Rattle.command.specs.Command.{spell, Known}
-use Rattle.command.specs.Request.{Ask, plain, script, turn, turns, view, chart, help, spell-ask, KnownAsk}
+use Rattle.command.specs.Request.{Ask, plain, script, turn, turns, view, chart, mark, mark-own, help, spell-ask, KnownAsk}
 use Rattle.command.specs.Grammar.{Grammar, CourseGrammar}
 use Rattle.command.specs.model.Reading.{command-of}
 use Rattle.command.specs.model.Request.{unknown, ask-of}
@@ -84,9 +84,9 @@ ask-known l n = go (asked-read l)
     go (inl u) = absurd (n u)
     go (inr w) = w .known
 
-ask-long : (l : List ℕ) → 1024 < length l → ask-of l ≡ unknown
+ask-long : (l : List ℕ) → 2048 < length l → ask-of l ≡ unknown
 unfolding ask-of
-ask-long l h = rw (lt-ltb 1024 (length l) h)
+ask-long l h = rw (lt-ltb 2048 (length l) h)
 
 asked : (l : List ℕ) (a : Ask) → KnownAsk a → l ≡ spell-ask a → ask-of l ≡ a
 asked l a h e = ap ask-of e ∙ spelled-asked a h
@@ -111,6 +111,8 @@ named-ask (turn p) = Unit {0}
 named-ask (turns ps) = Unit {0}
 named-ask view = Unit {0}
 named-ask chart = Unit {0}
+named-ask (mark b c) = Unit {0}
+named-ask (mark-own c) = Unit {0}
 named-ask help = Unit {0}
 
 unknown-ask-or : (a : Ask) → (a ≡ unknown) ⊎ (a ≡ unknown → ⊥)
@@ -125,6 +127,8 @@ unknown-ask-or (turn p) = inr (λ e. subst named-ask e tt)
 unknown-ask-or (turns ps) = inr (λ e. subst named-ask e tt)
 unknown-ask-or view = inr (λ e. subst named-ask e tt)
 unknown-ask-or chart = inr (λ e. subst named-ask e tt)
+unknown-ask-or (mark b c) = inr (λ e. subst named-ask e tt)
+unknown-ask-or (mark-own c) = inr (λ e. subst named-ask e tt)
 unknown-ask-or help = inr (λ e. subst named-ask e tt)
 
 asker : {f : List ℕ → Ask} → CourseGrammar f → Reader unknown KnownAsk spell-ask unknown-ask-or f

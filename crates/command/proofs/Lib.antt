@@ -3,6 +3,7 @@ pub mod Laws
 pub mod Read
 pub mod Listed
 pub mod Put
+pub mod Digits
 pub mod Fields
 pub mod Lines
 pub mod Asks

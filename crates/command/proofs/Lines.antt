@@ -14,7 +14,7 @@ use Rattle.command.specs.declared.Command.the-variants.{Start, StartWith
 use Rattle.command.specs.declared.reading.Field.{Field}
 use Rattle.command.specs.declared.reading.Three.{Three}
 use Rattle.command.specs.model.Reading.{is-digit, no-three, field-at, three-from, three-at, starts, start-from, start-line, move-from, move-line, command-of}
-use Rattle.command.specs.Printing.{decimal}
+use Rattle.command.specs.Printing.{decimal, hundredths}
 use Rattle.command.specs.Command.{field, start-word, move-word, back-word, show-word, spell, Known}
 use Rattle.command.proofs.Laws.{both}
 use Rattle.command.proofs.Fields.{field-spelled, field-only}
@@ -320,6 +320,10 @@ decimal-length n = one (ltb n 10)
     one : (t : Bool) → length (cond t ((48 + n) ∷ []) (cond (ltb n 100) ((48 + n / 10) ∷ (48 + n % 10) ∷ []) ((48 + n / 100) ∷ (48 + n / 10 % 10) ∷ (48 + n % 10) ∷ []))) ≤ 3
     one true = omega arith
     one false = two (ltb n 100)
+
+pub hundredths-length : (n : ℕ) → length (hundredths n) ≤ 6
+unfolding hundredths
+hundredths-length n = simp length-append (omega (arith, decimal-length (n / 100)))
 
 pub field-length : (n : ℕ) → length (field n) ≤ 4
 unfolding field

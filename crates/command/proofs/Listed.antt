@@ -122,23 +122,23 @@ module _ (s : List ℕ) (at : ℕ) (b x : List ℕ) (count end : ℕ) (r : Row s
         front = rw (r .front, m) (over-next b (values count (drop at s)) (f .value) count c k);
       }
 
-  pub row-all : (i : ℕ) → values i (drop at s) ≡ values count (drop at s) → left i (drop at s) ≡ left count (drop at s) → i ≡ 512
-      → (record { count = count; whole = leb (length s) end } ≡ listed (drop at s)) × (x ≡ over b (values 512 (drop at s)))
+  pub row-all : (i : ℕ) → values i (drop at s) ≡ values count (drop at s) → left i (drop at s) ≡ left count (drop at s) → i ≡ 1024
+      → (record { count = count; whole = leb (length s) end } ≡ listed (drop at s)) × (x ≡ over b (values 1024 (drop at s)))
   unfolding listed
   row-all i v l e =
-      let v′ : values 512 (drop at s) ≡ values count (drop at s) = rw e at v in
-      let l′ : left 512 (drop at s) ≡ left count (drop at s) = rw e at l in
+      let v′ : values 1024 (drop at s) ≡ values count (drop at s) = rw e at v in
+      let l′ : left 1024 (drop at s) ≡ left count (drop at s) = rw e at l in
       (rw (v′, l′, r .many, ← r .rest, at-end s end), r .front ∙ rw v′)
 
-  pub row-stop : (f : Field) → f ≡ field-at (drop end s) → f .width ≡ 0 → count ≤ 512
-      → (record { count = count; whole = leb (length s) end } ≡ listed (drop at s)) × (x ≡ over b (values 512 (drop at s)))
+  pub row-stop : (f : Field) → f ≡ field-at (drop end s) → f .width ≡ 0 → count ≤ 1024
+      → (record { count = count; whole = leb (length s) end } ≡ listed (drop at s)) × (x ≡ over b (values 1024 (drop at s)))
   row-stop f e z k =
       let g : f ≡ field-at (left count (drop at s)) = e ∙ ap field-at (r .rest) in
       let z′ : f .width ≤ 0 = omega arith in
-      let n = last count 512 (drop at s) k (rw g at z′) in
-      row-all 512 (n .all) (n .end) refl
+      let n = last count 1024 (drop at s) k (rw g at z′) in
+      row-all 1024 (n .all) (n .end) refl
 
-  pub row-full : count ≡ 512 → (record { count = count; whole = leb (length s) end } ≡ listed (drop at s)) × (x ≡ over b (values 512 (drop at s)))
+  pub row-full : count ≡ 1024 → (record { count = count; whole = leb (length s) end } ≡ listed (drop at s)) × (x ≡ over b (values 1024 (drop at s)))
   row-full e = row-all count refl refl e
 
 -- ---- a line with a list of numbers, as it is read
@@ -154,25 +154,25 @@ values-few (suc n) l = go (ltb 0 (field-at l .width)) (values-few n (drop (field
 
 -- the numbers are the buffer's front, and fewer than it holds
 record Taken (l x : List ℕ) (f : Fields) : Type 0 where
-  pub front : take (f .count) x ≡ values 512 l
-  pub few : f .count ≤ 512
+  pub front : take (f .count) x ≡ values 1024 l
+  pub few : f .count ≤ 1024
 
-taken : (l b x : List ℕ) (f : Fields) → f ≡ listed l → x ≡ over b (values 512 l) → Taken l x f
+taken : (l b x : List ℕ) (f : Fields) → f ≡ listed l → x ≡ over b (values 1024 l) → Taken l x f
 unfolding listed
-taken l b x f e h = rw e (record { front = rw (h, take-append-seam); few = values-few 512 l })
+taken l b x f e h = rw e (record { front = rw (h, take-append-seam); few = values-few 1024 l })
 
 pub record Answered (a line : Ask) (b x ns : List ℕ) (f : Fields) : Type 0 where
   pub read : a ≡ line
   pub buffer : x ≡ over b ns
-  pub few : f .count ≤ 512
+  pub few : f .count ≤ 1024
 
-pub script-read : (s b x : List ℕ) (k : Field) (f : Fields) → k ≡ field-at (drop 6 s) → f ≡ listed (drop (6 + k .width) s) → x ≡ over b (values 512 (drop (6 + k .width) s))
-    → Answered (script-from k f (take (f .count) x)) (script-line s) b x (values 512 (calls-in s)) f
+pub script-read : (s b x : List ℕ) (k : Field) (f : Fields) → k ≡ field-at (drop 6 s) → f ≡ listed (drop (6 + k .width) s) → x ≡ over b (values 1024 (drop (6 + k .width) s))
+    → Answered (script-from k f (take (f .count) x)) (script-line s) b x (values 1024 (calls-in s)) f
 unfolding script-line calls-in
 script-read s b x k f ek ef ex =
     let t = taken (drop (6 + k .width) s) b x f ef ex in
     record { read = rw (t .front, ← ek, ← ef); buffer = rw (← ek) ex; few = t .few }
 
-pub turns-read : (s b x : List ℕ) (f : Fields) → f ≡ listed (drop 5 s) → x ≡ over b (values 512 (drop 5 s)) → Answered (turns-from f (take (f .count) x)) (turns-line s) b x (values 512 (drop 5 s)) f
+pub turns-read : (s b x : List ℕ) (f : Fields) → f ≡ listed (drop 5 s) → x ≡ over b (values 1024 (drop 5 s)) → Answered (turns-from f (take (f .count) x)) (turns-line s) b x (values 1024 (drop 5 s)) f
 unfolding turns-line
 turns-read s b x f ef ex = let t = taken (drop 5 s) b x f ef ex in record { read = rw (t .front, ← ef); buffer = ex; few = t .few }

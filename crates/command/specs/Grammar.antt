@@ -29,7 +29,7 @@ pub record CourseGrammar (read : List ℕ → Ask) : Type 0 where
   pub known : (l : List ℕ) → (read l ≡ plain Unknown → ⊥) → KnownAsk (read l)
   -- no two are spelled the same;
   pub once : (a b : Ask) → KnownAsk a → KnownAsk b → spell-ask a ≡ spell-ask b → a ≡ b
-  -- a line of more than 1,024 bytes is Unknown;
-  pub long : (l : List ℕ) → 1024 < length l → read l ≡ plain Unknown
+  -- a line of more than 2,048 bytes is Unknown;
+  pub long : (l : List ℕ) → 2048 < length l → read l ≡ plain Unknown
   -- the stepper's lines are read as in the stepper
   pub stepper : (f : List ℕ → Command) → Grammar f → (l : List ℕ) → (f l ≡ Unknown → ⊥) → read l ≡ plain (f l)

@@ -26,6 +26,10 @@ wide n =
     cond (ltb n 1000) (decimal n)
     (decimal (n / 1000) ++ ((48 + n / 100 % 10) ∷ (48 + n / 10 % 10) ∷ (48 + n % 10) ∷ []))
 
+-- a number of hundredths below 100,000, with a point and two digits behind it: 8,823 is 88.23
+unfoldable pub hundredths : ℕ → List ℕ
+hundredths n = decimal (n / 100) ++ (46 ∷ (48 + n / 10 % 10) ∷ (48 + n % 10) ∷ [])
+
 -- a lower-case hexadecimal digit: 0 to 9, then a to f
 abbrev pub hex-digit : ℕ → ℕ
 hex-digit d = cond (ltb d 10) (48 + d) (87 + d)

@@ -1,4 +1,5 @@
 // The programs' lines: reading them, which command or request a line is, and the bytes of a response.
+mod hex;
 pub mod input;
 pub mod line;
 pub mod printing;

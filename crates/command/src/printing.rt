@@ -2,7 +2,7 @@
 ghost use mathlib.Core.Path.{_≡_};
 ghost use Prim.Native.Nat.{_+_, _-_, _%_, _<_, min};
 ghost use mathlib.Core.List.{_++_};
-ghost use Rattle.command.specs.Printing.{decimal, wide, hex-digit, hex, line-feed, spaces, buffer-of, add};
+ghost use Rattle.command.specs.Printing.{decimal, wide, hundredths, hex-digit, hex, line-feed, spaces, buffer-of, add};
 
 // A difference, 0 where it would be below.
 fn less(n: usize, m: usize) -> usize
@@ -85,6 +85,15 @@ pub fn put_wide(out: &mut [u8], at: usize, n: u16) -> usize
     }
     let end = put_short(out, at, n / 1000);
     let text = [digit(n / 100), digit(n / 10), digit(n)];
+    put(out, end, &text)
+}
+
+// A number of hundredths: a point and two digits stand last.
+pub fn put_hundredths(out: &mut [u8], at: usize, n: u16) -> usize
+    ensures { λ r. ⌜ buffer-of (now (out .exit)) r ≡ add (buffer-of (now (out .entry)) at) (hundredths n) ⌝ }
+{
+    let end = put_short(out, at, n / 100);
+    let text = [b'.', digit(n / 10), digit(n)];
     put(out, end, &text)
 }
 

@@ -1,5 +1,5 @@
 -- The lines of a class, one turn after the other.
-use Prim.Native.Nat.{ℕ, zero, suc, _+_, _-_, _*_, _≤_, _<_}
+use Prim.Native.Nat.{ℕ, suc, _+_, _-_, _*_, _≤_, _<_}
 use native.Mathlib.Nat.{mul-le-mul-right, suc-mul}
 use native.Mathlib.Numerals.{add-one}
 use native.Mathlib.Omega.{arith}
@@ -12,9 +12,10 @@ use Rattle.command.specs.Printing.{decimal, hex, line-feed, Buffer, add}
 use Rattle.command.proofs.Put.{add-add, add-none, then}
 use Rattle.state.specs.declared.Session.{Session}
 use Rattle.state.specs.Record.{Sized}
+use Rattle.state.proofs.Branch.{if-none, if-some}
 use lib.Dec.{eqb}
 use borrow.Author.Tests.{eq-eqb}
-use Rattle.reference.specs.Lists.{choose, if-zero}
+use Rattle.reference.specs.Lists.{choose}
 use Rattle.session.proofs.Undone.{config-right}
 use Rattle.reference.specs.Start.{Config, config-cause, start}
 use Rattle.reference.specs.Step.{Move}
@@ -75,38 +76,30 @@ module _ (c : Config) (right : config-cause c ≡ 0) (x : List ℕ) where
 choose-zero : (n : ℕ) (x y : List ℕ) → n ≡ 0 → x ≡ choose (eqb n 0) x y
 choose-zero n x y e = rw (eq-eqb n 0 e)
 
--- a test for 0 that is passed, and one that is not
-at-zero : (n : ℕ) (x y : List ℕ) → n ≡ 0 → x ≡ if-zero n x y
-at-zero n x y e = rw e
-
-not-zero : (n : ℕ) (x y : List ℕ) → (n ≡ 0 → ⊥) → y ≡ if-zero n x y
-not-zero zero x y z = absurd (z refl)
-not-zero (suc n) x y z = refl
-
 module _ (r : Session) (size : Sized (r .state)) (j x ps : List ℕ) where
   abbrev refusal : ℕ
-  refusal = class-refusal r j x ps (zeros 512) (zeros 151552)
+  refusal = class-refusal r j x ps (zeros 1024) (zeros 303104)
 
-  pub class-room : refusal ≡ 0 → (length ps ≤ 512) × (length ps * picture-size (config-of r) ≤ 151552)
+  pub class-room : refusal ≡ 0 → (length ps ≤ 1024) × (length ps * picture-size (config-of r) ≤ 303104)
   class-room none =
-      let room = fine r size j x ps (zeros 512) (zeros 151552) none .room in
-      (subst (λ (n : ℕ). length ps ≤ n) (zeros-long 512) (room .0), subst (λ (n : ℕ). length ps * picture-size (config-of r) ≤ n) (zeros-long 151552) (room .1))
+      let room = fine r size j x ps (zeros 1024) (zeros 303104) none .room in
+      (subst (λ (n : ℕ). length ps ≤ n) (zeros-long 1024) (room .0), subst (λ (n : ℕ). length ps * picture-size (config-of r) ≤ n) (zeros-long 303104) (room .1))
 
   pub class-refused : (n : ℕ) → n ≡ refusal → (n ≡ 0 → ⊥) → decimal n ++ line-feed ≡ class-text r j x ps
   unfolding class-text
-  class-refused n e z = ap (λ (k : ℕ). decimal k ++ line-feed) e ∙ not-zero refusal _ _ (λ q. z (e ∙ q))
+  class-refused n e z = ap (λ (k : ℕ). decimal k ++ line-feed) e ∙ sym (if-some refusal _ _ (λ q. z (e ∙ q)))
 
-  pub class-printed : (a b : List ℕ) → refusal ≡ 0 → a ≡ answers-after r j x ps (zeros 512) (zeros 151552) → b ≡ pictures-after r j x ps (zeros 512) (zeros 151552)
+  pub class-printed : (a b : List ℕ) → refusal ≡ 0 → a ≡ answers-after r j x ps (zeros 1024) (zeros 303104) → b ≡ pictures-after r j x ps (zeros 1024) (zeros 303104)
       → turn-lines (picture-size (config-of r)) (take (length ps) a) b ≡ class-text r j x ps
   unfolding class-text answers-after pictures-after
   class-printed a b none e f =
       let c = config-of r in
       let ms = standing r j in
-      let right = config-right r size (fine r size j x ps (zeros 512) (zeros 151552) none .record-ok) in
-      let ok = agree r size j x ps (zeros 512) (zeros 151552) none .legal in
+      let right = config-right r size (fine r size j x ps (zeros 1024) (zeros 303104) none .record-ok) in
+      let ok = agree r size j x ps (zeros 1024) (zeros 303104) none .legal in
       let answers = class-answers c x ms ps in
       let pictures = class-pictures c x ms ps in
-      let ea : a ≡ answers ++ drop (length answers) (zeros 512) = e ∙ sym (choose-zero refusal _ _ none) in
-      let eb : b ≡ pictures ++ drop (length pictures) (zeros 151552) = f ∙ sym (choose-zero refusal _ _ none) in
+      let ea : a ≡ answers ++ drop (length answers) (zeros 1024) = e ∙ sym (choose-zero refusal _ _ none) in
+      let eb : b ≡ pictures ++ drop (length pictures) (zeros 303104) = f ∙ sym (choose-zero refusal _ _ none) in
       let front : take (length ps) a ≡ answers = ap (take (length ps)) ea ∙ take-at answers _ (length ps) (answers-length c x ps ms) in
-      rw (front, eb) (lines-of c right x ps ms (drop (length pictures) (zeros 151552)) ok) ∙ at-zero refusal _ _ none
+      rw (front, eb) (lines-of c right x ps ms (drop (length pictures) (zeros 303104)) ok) ∙ sym (if-none refusal _ _ none)

@@ -4,3 +4,4 @@ pub mod ClassLines
 pub mod Lines
 pub mod Responses
 pub mod Sessions
+pub mod Worked

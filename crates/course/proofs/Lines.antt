@@ -1,23 +1,27 @@
 -- What a line on a session that has begun leaves and prints, from what its call answers.
-use Prim.Native.Nat.{ℕ, _≤_}
+use Prim.Native.Nat.{ℕ, _+_, _-_, _≤_}
+use native.Mathlib.Omega.{arith}
 use mathlib.Core.Bool.{Bool, true, false, cond}
-use mathlib.Core.Path.{_≡_, refl, ap, ap₂, _∙_}
-use mathlib.Core.List.{List}
-use lib.ListN.{length}
+use mathlib.Core.Path.{_≡_, refl, sym, ap, ap₂, _∙_}
+use mathlib.Core.List.{List, _++_}
+use lib.ListN.{length, take, drop}
 use borrow.Author.Tests.{le-ltb}
 use Rattle.command.specs.declared.Command.{Command}
-use Rattle.command.specs.Printing.{Buffer, add}
-use Rattle.command.specs.Request.{Ask, plain, script, turn, turns, view, chart, help}
+use Rattle.command.specs.Printing.{hundredths, line-feed, Buffer, add}
+use Rattle.command.specs.Request.{Ask, plain, script, turn, turns, view, chart, mark, mark-own, help}
 use Rattle.command.specs.model.Request.{ask-in, ask-of}
 use Rattle.state.specs.declared.Session.{Session}
 use Rattle.session.specs.declared.Answer.{Answer}
+use Rattle.state.proofs.Branch.{if-none, if-some}
 use Rattle.script.specs.Contract.{set-refusal, scripts-after}
 use Rattle.turns.specs.Contract.{turned, turn-journal, classed, class-journal}
+use Rattle.mark.specs.declared.Marked.{Marked}
+use Rattle.mark.specs.Mark.{marked, state-marked}
 use Rattle.shell.specs.declared.Shell.{Shell}
 use Rattle.shell.specs.Answers as shell
 use Rattle.shell.specs.Answers.{number, question-mark}
 use Rattle.shell.proofs.Buffers.{chosen, passed-over}
-use Rattle.course.specs.Answers.{zeros, class-text}
+use Rattle.course.specs.Answers.{zeros, class-text, mark-text}
 use Rattle.course.specs.Program.{Context, context-of, starts, left-with, response, after}
 
 abbrev pub in-context : shell.Context → List ℕ → Context
@@ -52,18 +56,40 @@ module _ (d : Shell) (j x : List ℕ) (begun : d .begun ≡ true) where
   unfolding response
   turn-text p a b c e f = f ∙ ap (add b) (chosen (d .begun) (number (turned (d .session) j x p .refusal)) question-mark (number (a .refusal)) begun (ap (λ (y : Answer). number (y .refusal)) e))
 
-  pub turns-left : (ps : List ℕ) (r : Session) (j′ : List ℕ) → r ≡ classed (d .session) j x ps (zeros 512) (zeros 151552) .session
-      → j′ ≡ class-journal (d .session) j x ps (zeros 512) (zeros 151552)
+  pub turns-left : (ps : List ℕ) (r : Session) (j′ : List ℕ) → r ≡ classed (d .session) j x ps (zeros 1024) (zeros 303104) .session
+      → j′ ≡ class-journal (d .session) j x ps (zeros 1024) (zeros 303104)
       → context-of (record { begun = d .begun; session = r }) j′ x ≡ after (context-of d j x) (turns ps)
   unfolding after
   turns-left ps r j′ e f =
       chosen (d .begun)
-      (left-with (context-of d j x) (classed (d .session) j x ps (zeros 512) (zeros 151552) .session) (class-journal (d .session) j x ps (zeros 512) (zeros 151552)))
+      (left-with (context-of d j x) (classed (d .session) j x ps (zeros 1024) (zeros 303104) .session) (class-journal (d .session) j x ps (zeros 1024) (zeros 303104)))
       (context-of d j x) _ begun (ap₂ (λ (s : Session) (i : List ℕ). left-with (context-of d j x) s i) e f)
 
   pub turns-text : (ps : List ℕ) (b c : Buffer) → c ≡ add b (class-text (d .session) j x ps) → c ≡ add b (response (context-of d j x) (turns ps))
   unfolding response
   turns-text ps b c f = f ∙ ap (add b) (chosen (d .begun) (class-text (d .session) j x ps) question-mark (class-text (d .session) j x ps) begun refl)
+
+  pub own-mark-text : (b : List ℕ) (a : Marked) (p q : Buffer) → a ≡ state-marked (d .session .state) b → q ≡ add p (mark-text a) → q ≡ add p (response (context-of d j x) (mark-own b))
+  unfolding response
+  own-mark-text b a p q e f = f ∙ ap (add p) (chosen (d .begun) (mark-text (state-marked (d .session .state) b)) question-mark (mark-text a) begun (ap mark-text e))
+
+-- ---- a mark
+
+-- the candidate's picture is the slice from n to n + m
+pub mark-line-text : (d : Shell) (j x b : List ℕ) (n m : ℕ) (a : Marked) (p q : Buffer) → a ≡ marked (take n b) (take (n + m - n) (drop n b)) → q ≡ add p (mark-text a)
+    → q ≡ add p (response (context-of d j x) (mark (take n b) (take m (drop n b))))
+unfolding response
+mark-line-text d j x b n m a p q e f =
+    let h : n + m - n ≡ m = omega arith in
+    f ∙ ap (λ (y : Marked). add p (mark-text y)) (rw h at e)
+
+pub mark-is : (a : Marked) → a .refusal ≡ 0 → hundredths (a .mark) ++ line-feed ≡ mark-text a
+unfolding mark-text
+mark-is a e = sym (if-none (a .refusal) _ _ e)
+
+pub refusal-is : (a : Marked) → (a .refusal ≡ 0 → ⊥) → number (a .refusal) ≡ mark-text a
+unfolding mark-text
+refusal-is a h = sym (if-some (a .refusal) _ _ h)
 
 -- ---- before a start has been accepted
 
@@ -75,6 +101,8 @@ OnSession (turn p) = Unit {0}
 OnSession (turns ps) = Unit {0}
 OnSession view = Unit {0}
 OnSession chart = Unit {0}
+OnSession (mark b c) = ⊥
+OnSession (mark-own c) = Unit {0}
 OnSession help = ⊥
 
 module _ (d : Shell) (j x : List ℕ) (none : d .begun ≡ false) where
@@ -86,6 +114,8 @@ module _ (d : Shell) (j x : List ℕ) (none : d .begun ≡ false) where
   early-left (turns ps) h = passed-over (d .begun) _ (context-of d j x) (context-of d j x) none refl
   early-left view h = refl
   early-left chart h = refl
+  early-left (mark b c) h = absurd h
+  early-left (mark-own c) h = refl
   early-left help h = absurd h
 
   question : (a : Ask) → OnSession a → question-mark ≡ response (context-of d j x) a
@@ -96,6 +126,8 @@ module _ (d : Shell) (j x : List ℕ) (none : d .begun ≡ false) where
   question (turns ps) h = passed-over (d .begun) _ question-mark question-mark none refl
   question view h = passed-over (d .begun) _ question-mark question-mark none refl
   question chart h = passed-over (d .begun) _ question-mark question-mark none refl
+  question (mark b c) h = absurd h
+  question (mark-own c) h = passed-over (d .begun) _ question-mark question-mark none refl
   question help h = absurd h
 
   pub early-text : (p : Buffer) (a : Ask) → OnSession a → add p question-mark ≡ add p (response (context-of d j x) a)
@@ -103,5 +135,5 @@ module _ (d : Shell) (j x : List ℕ) (none : d .begun ≡ false) where
 
 -- ---- what a line asks, where the buffer has room for its numbers
 
-pub asked-of : (a : Ask) (n : ℕ) (l : List ℕ) → 512 ≤ n → a ≡ ask-in n l → a ≡ ask-of l
-asked-of a n l h e = e ∙ rw (le-ltb n 512 h)
+pub asked-of : (a : Ask) (n : ℕ) (l : List ℕ) → 1024 ≤ n → a ≡ ask-in n l → a ≡ ask-of l
+asked-of a n l h e = e ∙ rw (le-ltb n 1024 h)

@@ -3,17 +3,17 @@ use Prim.Native.Nat.{ℕ, zero, suc, _*_, _≤_}
 use native.Mathlib.Omega.{arith}
 use mathlib.Core.Bool.{Bool, true, false, not, _||_, cond}
 use mathlib.Core.Path.{_≡_, refl, sym, ap, _∙_}
-use mathlib.Core.List.{List, [], _∷_}
+use mathlib.Core.List.{List, [], _∷_, _++_}
 use lib.Dec.{lit≤, leb, ltb}
 use lib.ListN.{length, take, drop, length-append}
 use lib.Seq.{take-at, take-all, length-take-le}
 use borrow.Author.Tests.{le-leb, leb-true, leb-false, ltb-false, not-false}
-use Rattle.command.specs.Printing.{text, buffer-of, add}
+use Rattle.command.specs.Printing.{text, hundredths, line-feed, buffer-of, add}
 use Rattle.command.specs.Transcript.{Held}
-use Rattle.command.specs.Request.{Ask, plain, script, turn, turns, view, chart, help}
+use Rattle.command.specs.Request.{Ask, plain, script, turn, turns, view, chart, mark, mark-own, help}
 use Rattle.command.specs.model.Request.{ask-of}
 use Rattle.command.specs.declared.line.Line.{Line}
-use Rattle.command.proofs.Lines.{decimal-length}
+use Rattle.command.proofs.Lines.{decimal-length, hundredths-length}
 use Rattle.command.proofs.Put.{hex-length}
 use Rattle.command.proofs.Held.{held-length}
 use Rattle.command.proofs.Grammar.{course-grammar-holds}
@@ -39,8 +39,10 @@ use Rattle.shell.specs.Answers.{number, question-mark}
 use Rattle.shell.proofs.Responses as shell
 use Rattle.view.proofs.Sizes.{view-length}
 use Rattle.chart.proofs.Length.{chart-length}
-use Rattle.course.specs.Answers.{zeros, class-lines, class-text, help-text}
+use Rattle.course.specs.Answers.{zeros, class-lines, class-text, mark-text, help-text}
 use Rattle.script.specs.Contract.{set-refusal}
+use Rattle.mark.specs.declared.Marked.{Marked}
+use Rattle.mark.specs.Mark.{marked, state-marked}
 use Rattle.course.proofs.Scripts.{zeros-long}
 use Rattle.course.specs.Program.{Context, response, after, course}
 
@@ -84,17 +86,17 @@ neither : (a b : Bool) → a || b ≡ false → a ≡ false
 neither true b e = e
 neither false b e = refl
 
-class-text-length : (r : Session) (j x ps : List ℕ) → length (class-text r j x ps) ≤ 305664
+class-text-length : (r : Session) (j x ps : List ℕ) → length (class-text r j x ps) ≤ 611328
 unfolding class-text class-refusal matches replays
-class-text-length r j x ps = go (class-refusal r j x ps (zeros 512) (zeros 151552)) refl
+class-text-length r j x ps = go (class-refusal r j x ps (zeros 1024) (zeros 303104)) refl
   where
-    go : (n : ℕ) → class-refusal r j x ps (zeros 512) (zeros 151552) ≡ n → length (if-zero n (class-lines (config-of r) x (standing r j) ps) (number n)) ≤ 305664
+    go : (n : ℕ) → class-refusal r j x ps (zeros 1024) (zeros 303104) ≡ n → length (if-zero n (class-lines (config-of r) x (standing r j) ps) (number n)) ≤ 611328
     go zero e =
         let first = or-passed (lent-refusal r (length j)) _ e in
-        let second = passed (lacks-room (config-of r) (length ps) (zeros 512) (zeros 151552)) _ _ (first .1) in
+        let second = passed (lacks-room (config-of r) (length ps) (zeros 1024) (zeros 303104)) _ _ (first .1) in
         let third = passed (not (matches r j)) _ _ (second .1) in
         let ok = lent-passed r (length j) (first .0) .1 in
-        let few : length ps ≤ 512 = omega (arith, ltb-false (length (zeros 512)) (length ps) (neither (ltb (length (zeros 512)) (length ps)) _ (second .0)), zeros-long 512) in
+        let few : length ps ≤ 1024 = omega (arith, ltb-false (length (zeros 1024)) (length ps) (neither (ltb (length (zeros 1024)) (length ps)) _ (second .0)), zeros-long 1024) in
         let legal = both-left (accepted (start (config-of r)) (standing r j)) _ (not-false _ (third .0)) in
         omega (arith, lines-length (config-of r) (right r ok) (small r ok) x ps (standing r j) legal)
     go (suc n) e = omega (arith, number-length (suc n))
@@ -104,6 +106,14 @@ class-text-length r j x ps = go (class-refusal r j x ps (zeros 512) (zeros 15155
 choice-length : (t : Bool) (x y : List ℕ) → length x ≤ 700000 → length y ≤ 700000 → length (cond t x y) ≤ 700000
 choice-length true x y h k = h
 choice-length false x y h k = k
+
+mark-length : (a : Marked) → length (mark-text a) ≤ 7
+unfolding mark-text
+mark-length a = go (a .refusal)
+  where
+    go : (n : ℕ) → length (if-zero n (hundredths (a .mark) ++ line-feed) (number n)) ≤ 7
+    go zero = simp length-append (omega (arith, hundredths-length (a .mark)))
+    go (suc n) = omega (arith, number-length (suc n))
 
 help-length : length help-text ≤ 700000
 unfolding text
@@ -117,6 +127,8 @@ response-length k (turn p) = choice-length (k .base .begun) _ question-mark (ome
 response-length k (turns ps) = choice-length (k .base .begun) _ question-mark (omega (arith, class-text-length (k .base .session) (k .base .journal) (k .scripts) ps)) (omega arith)
 response-length k view = choice-length (k .base .begun) _ question-mark (omega (arith, view-length (k .base .session .state))) (omega arith)
 response-length k chart = choice-length (k .base .begun) _ question-mark (omega (arith, chart-length (k .base .session) (k .base .journal))) (omega arith)
+response-length k (mark b c) = omega (arith, mark-length (marked b c))
+response-length k (mark-own c) = choice-length (k .base .begun) _ question-mark (omega (arith, mark-length (state-marked (k .base .session .state) c))) (omega arith)
 response-length k help = help-length
 
 -- ---- a line that a buffer holds, and the response that the output begins with
@@ -124,8 +136,8 @@ response-length k help = help-length
 pub response-fits : (out out′ : List ℕ) (n : ℕ) (a : Ask) (k : Context) → 700000 ≤ length out → buffer-of out′ n ≡ add (buffer-of out 0) (response k a) → n ≤ length out′
 response-fits out out′ n a k h e = printed-fits out out′ (response k a) n e (omega (arith, response-length k a))
 
--- a line that is too long shows by its first 1,025 bytes
-front-asks : (n : ℕ) (l : List ℕ) → 1025 ≤ n → ask-of (take n l) ≡ ask-of l
+-- a line that is too long shows by its first 2,049 bytes
+front-asks : (n : ℕ) (l : List ℕ) → 2049 ≤ n → ask-of (take n l) ≡ ask-of l
 front-asks n l h = go (leb (length l) n) refl
   where
     go : (t : Bool) → leb (length l) n ≡ t → ask-of (take n l) ≡ ask-of l
@@ -134,12 +146,12 @@ front-asks n l h = go (leb (length l) n) refl
         let k = leb-false (length l) n e in
         course-grammar-holds .long (take n l) (omega (arith, length-take-le n l (omega arith))) ∙ sym (course-grammar-holds .long l (omega arith))
 
-held-asks : (l before : List ℕ) (line : Line) (bytes : List ℕ) → 1025 ≤ length bytes → Held l before line bytes → ask-of (take (line .len) bytes) ≡ ask-of l
+held-asks : (l before : List ℕ) (line : Line) (bytes : List ℕ) → 2049 ≤ length bytes → Held l before line bytes → ask-of (take (line .len) bytes) ≡ ask-of l
 held-asks l before line bytes n h =
     ap ask-of (ap (take (line .len)) (h .all) ∙ take-at (take (length before) l) (drop (line .len) before) (line .len) (sym (h .len)))
     ∙ front-asks (length before) l (omega (arith, held-length l before line bytes h))
 
-pub responded : (out out′ : List ℕ) (n : ℕ) (line : Line) (before bytes : List ℕ) (k k′ : Context) → 700000 ≤ length out → 1025 ≤ length bytes
+pub responded : (out out′ : List ℕ) (n : ℕ) (line : Line) (before bytes : List ℕ) (k k′ : Context) → 700000 ≤ length out → 2049 ≤ length bytes
     → k′ ≡ after k (ask-of (take (line .len) bytes)) → buffer-of out′ n ≡ add (buffer-of out 0) (response k (ask-of (take (line .len) bytes)))
     → (l : List ℕ) → Held l before line bytes → (take n out′ ≡ course .response l k) × (k′ ≡ course .after l k)
 responded out out′ n line before bytes k k′ h b a e l w =

@@ -8,19 +8,19 @@ use lib.Dec.{eqb}
 use native.Mathlib.Nat.{mul-le-mul}
 use native.Mathlib.Omega.{arith}
 use lib.ListN.{length, length-append}
-use borrow.Author.Tests.{eqb-true, le-ltb}
-use Rattle.command.specs.Printing.{hex, line-feed}
+use borrow.Author.Tests.{eqb-true, eqb-false, le-ltb}
+use Rattle.command.specs.Printing.{hundredths, hex, line-feed}
 use Rattle.command.specs.Transcript.{counts, Lines, no-line, one-more-line, Run}
-use Rattle.command.specs.Request.{Ask, plain, script, turn, turns, view, chart, help, turns-word, fields, spell-ask, KnownAsk}
+use Rattle.command.specs.Request.{Ask, plain, script, turn, turns, view, chart, mark, mark-own, help, turns-word, fields, spell-ask, KnownAsk}
 use Rattle.command.specs.model.Request.{ask-of}
 use Rattle.command.specs.declared.Command.{Command}
 use Rattle.command.specs.declared.Command.the-variants.{Start, StartWith, Move, Back, Show, Unknown}
 use Rattle.command.proofs.Asks.{fields-wide}
 use Rattle.command.proofs.Grammar.{course-grammar-holds}
 use Rattle.state.specs.declared.Session.{Session}
-use Rattle.state.specs.Association.{decode}
-use Rattle.reference.specs.Refusal.{refuse}
-use Rattle.reference.specs.Lists.{if-zero}
+use Rattle.state.specs.Association.{encode, decode}
+use Rattle.reference.specs.Refusal.{bad-length, refuse}
+use Rattle.reference.specs.Lists.{choose, if-zero}
 use Rattle.reference.specs.State.{State}
 use Rattle.reference.specs.Start.{Config, config-cause}
 use Rattle.reference.specs.Step as step-of
@@ -31,10 +31,14 @@ use Rattle.reference.specs.Session as reference
 use Rattle.reference.specs.Session.{Request, own, short, lacks-room, picture-size, state-of, answer-to}
 use Rattle.reference.proofs.Start.{ranges}
 use Rattle.reference.proofs.Laws.{safe}
+use Rattle.shown.proofs.Unique.{encode-sized}
 use Rattle.picture.specs.Picture.{write-refusal}
+use Rattle.mark.specs.Mark as marks
+use Rattle.mark.specs.Mark.{mark-refusal, marked, state-marked}
+use Rattle.mark.proofs.Laws.{laws}
 use Rattle.session.specs.Contract.{config-of, table, started, standing, moved, undone}
 use Rattle.session.proofs.Holding.{Holds, shown-is, config-is, standing-is}
-use Rattle.session.proofs.Shown.{fits}
+use Rattle.session.proofs.Shown.{state-right, state-back, picture-long, fits}
 use Rattle.turns.specs.Contract.{turned, class-refusal, classed}
 use Rattle.script.specs.Contract.{scripts-after}
 use Rattle.script.proofs.Sets.{sets-hold, empty-holds}
@@ -45,7 +49,7 @@ use Rattle.claim.proofs.Fits.{held-then, session-then}
 use Rattle.claim.proofs.Demand3.{Reached, first-right, reached, demand3}
 use Rattle.shell.specs.Answers as shell
 use Rattle.shell.specs.Answers.{number, begun-by}
-use Rattle.course.specs.Answers.{zeros, class-lines, class-text}
+use Rattle.course.specs.Answers.{zeros, class-lines, class-text, mark-text}
 use Rattle.course.specs.Program.{Context, started-with, starts, response, after, left-with, course}
 use Rattle.course.proofs.Scripts.{zeros-long}
 use Rattle.course.specs.Sessions.{after-lines, held-by, InSession, Answers, Lawful, Sessions}
@@ -167,9 +171,11 @@ module _ (n m : ℕ) where
   kept-ask k g (plain c) = kept-plain k g c
   kept-ask k g (script i c) = kept-script k g i c
   kept-ask k g (turn p) = kept-call k g (reference.turn (k .scripts) p)
-  kept-ask k g (turns ps) = kept-call k g (reference.class (k .scripts) ps (zeros 512) (zeros 151552))
+  kept-ask k g (turns ps) = kept-call k g (reference.class (k .scripts) ps (zeros 1024) (zeros 303104))
   kept-ask k g view = g
   kept-ask k g chart = g
+  kept-ask k g (mark b c) = g
+  kept-ask k g (mark-own c) = g
   kept-ask k g help = g
 
   kept-lines : (ls : List (List ℕ)) (k : Context) → Kept k → Kept (after-lines k ls)
@@ -194,7 +200,7 @@ first-kept j x = record { long = refl; room = refl; held = λ e. never e; order 
 -- ---- what is held and answered then
 
 -- no line asks for more turns than there is room for
-few-turns : (l ps : List ℕ) → ask-of l ≡ turns ps → length ps ≤ 512
+few-turns : (l ps : List ℕ) → ask-of l ≡ turns ps → length ps ≤ 1024
 unfolding spell-ask
 few-turns l ps e =
     let known : KnownAsk (turns ps) = subst KnownAsk e (course-grammar-holds .known l (λ f. other ps (sym e ∙ f))) in
@@ -207,6 +213,8 @@ few-turns l ps e =
     is-turns (turn p) = 0
     is-turns view = 0
     is-turns chart = 0
+    is-turns (mark b c) = 0
+    is-turns (mark-own c) = 0
     is-turns help = 0
 
     other : (ps : List ℕ) → turns ps ≡ plain Unknown → ⊥
@@ -248,17 +256,17 @@ module _ (n m : ℕ) (k : Context) (g : Kept n m k) (b : k .base .begun ≡ true
     order : scripts-ok (d .T) (k .scripts) ≡ true
     order = ap (λ (t : ℕ). scripts-ok t (k .scripts)) (sym (threads-is (held-by k) s)) ∙ g .order all b
 
-    enough : (ps : List ℕ) → length ps ≤ 512 → lacks-room d (length ps) (zeros 512) (zeros 151552) ≡ false
+    enough : (ps : List ℕ) → length ps ≤ 1024 → lacks-room d (length ps) (zeros 1024) (zeros 303104) ≡ false
     enough ps h =
         let f = ranges d good in
         let small : picture-size d ≤ 296 = omega (arith, f .processors .1, f .threads .1, f .mutexes .1) in
-        rw (zeros-long 512, zeros-long 151552, le-ltb 512 (length ps) h) (le-ltb 151552 (length ps * picture-size d) (omega (arith, mul-le-mul h small)))
+        rw (zeros-long 1024, zeros-long 303104, le-ltb 1024 (length ps) h) (le-ltb 303104 (length ps * picture-size d) (omega (arith, mul-le-mul h small)))
 
     to-turns : (i ps : List ℕ) → ask-of i ≡ turns ps → response k (turns ps) ≡ class-lines d (k .scripts) l ps
     unfolding response class-text classed
     to-turns i ps e =
-        let none : class-refusal r j (k .scripts) ps (zeros 512) (zeros 151552) ≡ 0 =
-        numbered (reference.class (k .scripts) ps (zeros 512) (zeros 151552)) ∙ rw (room, enough ps (few-turns i ps e), order) in
+        let none : class-refusal r j (k .scripts) ps (zeros 1024) (zeros 303104) ≡ 0 =
+        numbered (reference.class (k .scripts) ps (zeros 1024) (zeros 303104)) ∙ rw (room, enough ps (few-turns i ps e), order) in
         said (class-text r j (k .scripts) ps) _
         (ap (λ (z : ℕ). if-zero z (class-lines (config-of r) (k .scripts) (standing r j) ps) (number z)) none ∙
         (λ t. class-lines (config-is d good l r j shows t) (k .scripts) (standing-is d good l r j shows t) ps))
@@ -274,6 +282,25 @@ module _ (n m : ℕ) (k : Context) (g : Kept n m k) (b : k .base .begun ≡ true
         (ap (λ (z : ℕ). cond (eqb z 0) (hex (picture (decode (r .state))) ++ line-feed) (number z)) none ∙
         ap (λ (z : State). hex (picture z) ++ line-feed) (shown-is d good l r j shows))
 
+    to-mark : (c : List ℕ) → response k (mark-own c) ≡
+        choose (eqb (length c) (picture-size d)) (hundredths (marks.mark (picture (state-of d l)) c) ++ line-feed) (number bad-length)
+    unfolding response mark-text marked
+    to-mark c =
+        let z : State = state-of d l in
+        let back = state-back d l good (shows .legal) in
+        let w = laws .own (encode z) c (encode-sized z) (state-right d l good (shows .legal)) in
+        let is : state-marked (r .state) c ≡ marked (picture z) c =
+        ap (λ (q : Session). state-marked (q .state) c) (shows .shows) ∙ w .0 ∙ ap (λ (y : State). marked (picture y) c) back in
+        said (mark-text (state-marked (r .state) c)) _
+        (ap mark-text is ∙ go (eqb (length c) (picture-size d)) refl (picture-long d l good (shows .legal)) (rw back at (w .1)) (rw back at (w .2)))
+      where
+        go : (t : Bool) → eqb (length c) (picture-size d) ≡ t → length (picture (state-of d l)) ≡ picture-size d
+            → (length c ≡ length (picture (state-of d l)) → mark-refusal (picture (state-of d l)) c ≡ 0)
+            → ((length c ≡ length (picture (state-of d l)) → ⊥) → mark-refusal (picture (state-of d l)) c ≡ bad-length)
+            → mark-text (marked (picture (state-of d l)) c) ≡ choose t (hundredths (marks.mark (picture (state-of d l)) c) ++ line-feed) (number bad-length)
+        go true e size right wrong = rw (right (eqb-true (length c) (picture-size d) e ∙ sym size))
+        go false e size right wrong = rw (wrong (λ q. eqb-false (length c) (picture-size d) e (q ∙ size)))
+
     answers : Answers k d l
     unfolding response shell.response moved undone turned
     answers =
@@ -283,6 +310,7 @@ module _ (n m : ℕ) (k : Context) (g : Kept n m k) (b : k .base .begun ≡ true
           to-show = to-show;
           to-turn = λ p. said _ _ (ap number (numbered (reference.turn (k .scripts) p) ∙ rw (room, order)));
           to-turns = to-turns;
+          to-mark = to-mark;
         }
 
   lawful : Lawful n m k

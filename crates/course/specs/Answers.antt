@@ -1,9 +1,10 @@
--- What `course` writes for a class, and for `help`.
+-- What `course` writes for a class, for a mark, and for `help`.
 -- Assumes nothing.
 use Prim.Native.Nat.{ℕ}
 use mathlib.Core.List.{List, [], _∷_, _++_}
 use lib.ListN.{replicate}
-use Rattle.command.specs.Printing.{text, hex, line-feed}
+use Rattle.command.specs.Printing.{text, hundredths, hex, line-feed}
+use Rattle.mark.specs.declared.Marked.{Marked}
 use Rattle.state.specs.declared.Session.{Session}
 use Rattle.reference.specs.Lists.{if-zero}
 use Rattle.reference.specs.Start.{Config}
@@ -27,11 +28,16 @@ class-lines c x ms (p ∷ ps) =
 unfoldable pub zeros : ℕ → List ℕ
 zeros n = replicate n 0
 
--- there is room for 512 turns; were the class refused, its number
+-- there is room for 1024 turns; were the class refused, its number
 unfoldable pub class-text : Session → List ℕ → List ℕ → List ℕ → List ℕ
 class-text r j x ps =
-    if-zero (class-refusal r j x ps (zeros 512) (zeros 151552)) (class-lines (config-of r) x (standing r j) ps)
-    (number (class-refusal r j x ps (zeros 512) (zeros 151552)))
+    if-zero (class-refusal r j x ps (zeros 1024) (zeros 303104)) (class-lines (config-of r) x (standing r j) ps)
+    (number (class-refusal r j x ps (zeros 1024) (zeros 303104)))
+
+-- ---- a line with a mark, or with the refusal
+
+unfoldable pub mark-text : Marked → List ℕ
+mark-text a = if-zero (a .refusal) (hundredths (a .mark) ++ line-feed) (number (a .refusal))
 
 -- ---- help
 
@@ -47,5 +53,7 @@ help-text =
     text "turns p p ..     turns one after the other: for each its answer, then the picture\n" ++
     text "view             the state as a table\n" ++
     text "chart            the moves that stand, a column for each processor\n" ++
+    text "mark HEX HEX     the mark of a picture: the machine's, then the candidate's\n" ++
+    text "mark HEX         the mark of a candidate's picture against the session's\n" ++
     text "help             these lines\n" ++
     text "\n"

@@ -3,3 +3,4 @@ pub mod Answers
 pub mod Program
 pub mod model
 pub mod Sessions
+pub mod Worked

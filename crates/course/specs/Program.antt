@@ -7,7 +7,7 @@ use mathlib.Core.List.{List}
 use lib.Dec.{eqb}
 use lib.ListN.{length}
 use Rattle.command.specs.Transcript.{Program}
-use Rattle.command.specs.Request.{Ask, plain, script, turn, turns, view, chart, help}
+use Rattle.command.specs.Request.{Ask, plain, script, turn, turns, view, chart, mark, mark-own, help}
 use Rattle.command.specs.model.Request.{ask-of}
 use Rattle.command.specs.declared.Command.{Command}
 use Rattle.command.specs.declared.Command.the-variants.{Start, StartWith, Move, Back, Show, Unknown}
@@ -17,10 +17,11 @@ use Rattle.session.specs.Contract.{table, started}
 use Rattle.turns.specs.Contract.{turned, turn-journal, classed, class-journal}
 use Rattle.view.specs.Table.{view-text}
 use Rattle.chart.specs.Chart.{chart-text}
+use Rattle.mark.specs.Mark.{marked, state-marked}
 use Rattle.shell.specs.declared.Shell.{Shell}
 use Rattle.shell.specs.Answers as shell
 use Rattle.shell.specs.Answers.{number, question-mark}
-use Rattle.course.specs.Answers.{zeros, class-text, help-text}
+use Rattle.course.specs.Answers.{zeros, class-text, mark-text, help-text}
 
 -- the session and the journal, as the stepper has them, and the threads' scripts
 pub record Context : Type 0 where
@@ -44,7 +45,7 @@ starts Back = false
 starts Show = false
 starts Unknown = false
 
--- ---- what a line is answered; until a start has been accepted, `?`
+-- ---- what a line is answered; until a start has been accepted, `?` where it is about the session
 
 module _ (k : Context) where
   abbrev pub begun : Bool
@@ -56,7 +57,8 @@ module _ (k : Context) where
   abbrev pub journal : List ℕ
   journal = k .base .journal
 
-  -- `script`: 0 or the refusal. `turn`: the same. `turns`: the class's lines. `view`: the table. `chart`: the chart.
+  -- `script`: 0 or the refusal. `turn`: the same. `turns`: the class's lines. `view`: the table. `chart`: the chart. `mark`: the mark or the refusal; with two
+  -- pictures it needs no session.
   unfoldable pub response : Ask → List ℕ
   response (plain c) = shell.response c (k .base)
   response (script i c) = cond begun (number (set-refusal (session .state .t) (k .scripts) i c)) question-mark
@@ -64,6 +66,8 @@ module _ (k : Context) where
   response (turns ps) = cond begun (class-text session journal (k .scripts) ps) question-mark
   response view = cond begun (view-text (session .state)) question-mark
   response chart = cond begun (chart-text session journal) question-mark
+  response (mark b c) = mark-text (marked b c)
+  response (mark-own c) = cond begun (mark-text (state-marked (session .state) c)) question-mark
   response help = help-text
 
   -- ---- what it leaves
@@ -79,10 +83,12 @@ module _ (k : Context) where
   after (turn p) = cond begun (left-with (turned session journal (k .scripts) p .session) (turn-journal session journal (k .scripts) p)) k
   after (turns ps) =
       cond begun
-      (left-with (classed session journal (k .scripts) ps (zeros 512) (zeros 151552) .session) (class-journal session journal (k .scripts) ps (zeros 512) (zeros 151552)))
+      (left-with (classed session journal (k .scripts) ps (zeros 1024) (zeros 303104) .session) (class-journal session journal (k .scripts) ps (zeros 1024) (zeros 303104)))
       k
   after view = k
   after chart = k
+  after (mark b c) = k
+  after (mark-own c) = k
   after help = k
 
 abbrev pub course : Program

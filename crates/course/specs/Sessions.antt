@@ -7,13 +7,14 @@ use mathlib.Core.List.{List, [], _∷_, _++_}
 use mathlib.Core.Path.{_≡_}
 use lib.Dec.{eqb}
 use lib.ListN.{length, take}
-use Rattle.command.specs.Printing.{hex, line-feed}
+use Rattle.command.specs.Printing.{hundredths, hex, line-feed}
 use Rattle.command.specs.Transcript.{Run}
-use Rattle.command.specs.Request.{plain, turn, turns}
+use Rattle.command.specs.Request.{plain, turn, turns, mark-own}
 use Rattle.command.specs.model.Request.{ask-of}
 use Rattle.command.specs.declared.Command.the-variants.{Move, Back, Show}
 use Rattle.state.specs.Association.{session-record}
-use Rattle.reference.specs.Refusal.{nothing-applied, refuse}
+use Rattle.reference.specs.Refusal.{nothing-applied, bad-length, refuse}
+use Rattle.reference.specs.Lists.{choose}
 use Rattle.reference.specs.State.{State}
 use Rattle.reference.specs.Start.{Config, config-cause, start}
 use Rattle.reference.specs.Step as step
@@ -21,7 +22,8 @@ use Rattle.reference.specs.Cause.{cause, accepted}
 use Rattle.reference.specs.Safe.{Safe}
 use Rattle.reference.specs.Picture.{picture}
 use Rattle.reference.specs.Script.{turn-cause}
-use Rattle.reference.specs.Session.{table, Request, own, bytes, state-of, answer}
+use Rattle.reference.specs.Session.{table, Request, own, bytes, picture-size, state-of, answer}
+use Rattle.mark.specs.Mark.{mark}
 use Rattle.claim.specs.Implementation.{contract}
 use Rattle.claim.specs.Demand3.{Event, Held, reply, gives, IsSession, opening, held-at-end}
 use Rattle.shell.specs.Answers.{number}
@@ -53,6 +55,9 @@ pub record Answers (k : Context) (c : Config) (ms : List step.Move) : Type 0 whe
   pub to-show : response k (plain Show) ≡ hex (picture (state-of c ms)) ++ line-feed
   pub to-turn : (p : ℕ) → response k (turn p) ≡ number (turn-cause c (k .scripts) ms p)
   pub to-turns : (l ps : List ℕ) → ask-of l ≡ turns ps → response k (turns ps) ≡ class-lines c (k .scripts) ms ps
+  -- a candidate's picture against that of the moves' state; no refusal but that of its length
+  pub to-mark : (b : List ℕ) → response k (mark-own b) ≡
+      choose (eqb (length b) (picture-size c)) (hundredths (mark (picture (state-of c ms)) b) ++ line-feed) (number bad-length)
 
 -- what is held is that of a start table and a list of moves, each of them accepted; `n` and `m` are the lengths of the journal and of the scripts at first
 pub record Lawful (n m : ℕ) (k : Context) : Type 0 where

@@ -2,21 +2,24 @@
 ghost use mathlib.Core.Path.{_≡_};
 ghost use mathlib.Core.Bool.{true, false, cond};
 ghost use mathlib.Core.List.{List};
-ghost use Prim.Native.Nat.{ℕ, _≤_};
+ghost use Prim.Native.Nat.{ℕ, _+_, _≤_};
 ghost use lib.Dec.{eqb};
-ghost use lib.ListN.{length};
+ghost use lib.ListN.{length, take, drop};
 ghost use Rattle.command.specs.Printing.{buffer-of, add};
-ghost use Rattle.command.specs.Request.{plain, script, turn, turns, view, chart, help, asked, count-in};
+ghost use Rattle.command.specs.Request.{plain, script, turn, turns, view, chart, mark, mark-own, help, asked, count-in};
 ghost use Rattle.command.specs.model.Request.{ask-of};
 ghost use Rattle.session.specs.Contract.{table, started};
-ghost use Rattle.course.specs.Answers.{zeros};
+ghost use Rattle.course.specs.Answers.{zeros, mark-text};
 ghost use Rattle.course.specs.Program.{context-of, starts, response, after};
 use crate::class::class;
 use crate::help::put_help;
 use command::Command;
 use command::printing::number_line;
+use command::printing::put;
+use command::printing::put_hundredths;
 use command::request::Request;
 use command::request::request_of;
+use mark::Marked;
 use shell::Reply;
 use shell::Shell;
 
@@ -142,6 +145,45 @@ fn chart_line(shell: Shell, journal: &[u8], out: &mut [u8]) -> Reply
     Reply { shell, len }
 }
 
+// A mark on a line of its own, or the refusal.
+fn put_marked(out: &mut [u8], found: Marked) -> usize
+    ensures { λ r. ⌜ buffer-of (now (out .exit)) r ≡ add (buffer-of (now (out .entry)) 0) (mark-text found) ⌝ }
+{
+    let refusal = found.refusal;
+    if refusal != 0 {
+        return number_line(out, 0, refusal);
+    }
+    let end = put_hundredths(out, 0, found.mark);
+    put(out, end, b"\n")
+}
+
+// Two pictures, the machine's of n bytes and behind it the candidate's of m. It needs no session.
+fn mark_line(shell: Shell, numbers: &[u8], n: u16, m: u16, out: &mut [u8]) -> Reply
+    requires { ⌜ n + m ≤ length (now numbers) ⌝ }
+    ensures { λ r. ⌜ r .shell ≡ shell ⌝ }
+    ensures { λ r. ⌜ ((j x : List ℕ) → buffer-of (now (out .exit)) (r .len) ≡ add (buffer-of (now (out .entry)) 0) (response (context-of shell j x) (mark (take n (now (numbers .entry))) (take m (drop n (now (numbers .entry))))))) ⌝ }
+{
+    let first = n as usize;
+    let end = first + m as usize;
+    let found = mark::mark(&numbers[..first], &numbers[first..end]);
+    let len = put_marked(out, found);
+    Reply { shell, len }
+}
+
+// A candidate's picture of n bytes against the session's own.
+fn own_mark_line(shell: Shell, numbers: &[u8], n: u16, out: &mut [u8]) -> Reply
+    requires { ⌜ (shell .begun ≡ true) × (n ≤ length (now numbers)) ⌝ }
+    ensures { λ r. ⌜ r .shell ≡ shell ⌝ }
+    ensures { λ r. ⌜ ((j x : List ℕ) → buffer-of (now (out .exit)) (r .len) ≡ add (buffer-of (now (out .entry)) 0) (response (context-of shell j x) (mark-own (take n (now (numbers .entry)))))) ⌝ }
+{
+    let session = shell.session;
+    let state = session.state;
+    let end = n as usize;
+    let found = mark::mark_state(state, &numbers[..end]);
+    let len = put_marked(out, found);
+    Reply { shell, len }
+}
+
 fn help_line(shell: Shell, out: &mut [u8]) -> Reply
     ensures { λ r. ⌜ r .shell ≡ shell ⌝ }
     ensures { λ r. ⌜ ((j x : List ℕ) → buffer-of (now (out .exit)) (r .len) ≡ add (buffer-of (now (out .entry)) 0) (response (context-of shell j x) help)) ⌝ }
@@ -176,21 +218,24 @@ fn session_line(
         }
         Request::View => view_line(shell, out),
         Request::Chart => chart_line(shell, journal, out),
+        Request::Mark(n, m) => mark_line(shell, numbers, n, m, out),
+        Request::MarkOwn(n) => own_mark_line(shell, numbers, n, out),
         Request::Help => help_line(shell, out),
     }
 }
 
-// A line before a start has been accepted: only those of the stepper and help are answered otherwise than by `?`.
+// A line before a start has been accepted: only those of the stepper, help and a mark of two pictures are answered otherwise than by `?`.
 fn early_line(
     shell: Shell,
     journal: &mut [u8],
     scripts: &mut [u8],
     request: Request,
+    numbers: &[u8],
     out: &mut [u8],
 ) -> Reply
-    requires { ⌜ shell .begun ≡ false ⌝ }
-    ensures { λ r. ⌜ ((b : List ℕ) → context-of (r .shell) (now (journal .exit)) (now (scripts .exit)) ≡ after (context-of shell (now (journal .entry)) (now (scripts .entry))) (asked request b)) ⌝ }
-    ensures { λ r. ⌜ ((b : List ℕ) → buffer-of (now (out .exit)) (r .len) ≡ add (buffer-of (now (out .entry)) 0) (response (context-of shell (now (journal .entry)) (now (scripts .entry))) (asked request b))) ⌝ }
+    requires { ⌜ (shell .begun ≡ false) × (count-in request ≤ length (now numbers)) ⌝ }
+    ensures { λ r. ⌜ context-of (r .shell) (now (journal .exit)) (now (scripts .exit)) ≡ after (context-of shell (now (journal .entry)) (now (scripts .entry))) (asked request (now (numbers .entry))) ⌝ }
+    ensures { λ r. ⌜ buffer-of (now (out .exit)) (r .len) ≡ add (buffer-of (now (out .entry)) 0) (response (context-of shell (now (journal .entry)) (now (scripts .entry))) (asked request (now (numbers .entry)))) ⌝ }
 {
     match request {
         Request::Plain(c) => stepper_line(shell, journal, scripts, c, out),
@@ -199,6 +244,8 @@ fn early_line(
         Request::Turns(n) => shell::unknown(shell, out),
         Request::View => shell::unknown(shell, out),
         Request::Chart => shell::unknown(shell, out),
+        Request::Mark(n, m) => mark_line(shell, numbers, n, m, out),
+        Request::MarkOwn(n) => shell::unknown(shell, out),
         Request::Help => help_line(shell, out),
     }
 }
@@ -212,7 +259,7 @@ pub(crate) fn respond(
     numbers: &mut [u8],
     out: &mut [u8],
 ) -> Reply
-    requires { ⌜ 512 ≤ length (now numbers) ⌝ }
+    requires { ⌜ 1024 ≤ length (now numbers) ⌝ }
     ensures { λ r. ⌜ context-of (r .shell) (now (journal .exit)) (now (scripts .exit)) ≡ after (context-of shell (now (journal .entry)) (now (scripts .entry))) (ask-of (now (line .entry))) ⌝ }
     ensures { λ r. ⌜ buffer-of (now (out .exit)) (r .len) ≡ add (buffer-of (now (out .entry)) 0) (response (context-of shell (now (journal .entry)) (now (scripts .entry))) (ask-of (now (line .entry)))) ⌝ }
 {
@@ -221,5 +268,5 @@ pub(crate) fn respond(
     if begun {
         return session_line(shell, journal, scripts, request, numbers, out);
     }
-    early_line(shell, journal, scripts, request, out)
+    early_line(shell, journal, scripts, request, numbers, out)
 }

@@ -42,12 +42,12 @@ pub fn class(
     out: &mut [u8],
     at: usize,
 ) -> Printed
-    ensures { λ r. ⌜ r .session ≡ classed session (now (journal .entry)) (now (scripts .entry)) (now (turns .entry)) (zeros 512) (zeros 151552) .session ⌝ }
-    ensures { λ r. ⌜ now (journal .exit) ≡ class-journal session (now (journal .entry)) (now (scripts .entry)) (now (turns .entry)) (zeros 512) (zeros 151552) ⌝ }
+    ensures { λ r. ⌜ r .session ≡ classed session (now (journal .entry)) (now (scripts .entry)) (now (turns .entry)) (zeros 1024) (zeros 303104) .session ⌝ }
+    ensures { λ r. ⌜ now (journal .exit) ≡ class-journal session (now (journal .entry)) (now (scripts .entry)) (now (turns .entry)) (zeros 1024) (zeros 303104) ⌝ }
     ensures { λ r. ⌜ buffer-of (now (out .exit)) (r .end) ≡ add (buffer-of (now (out .entry)) at) (class-text session (now (journal .entry)) (now (scripts .entry)) (now (turns .entry))) ⌝ }
 {
-    let mut answers = [0u8; 512];
-    let mut pictures = [0u8; 151552];
+    let mut answers = [0u8; 1024];
+    let mut pictures = [0u8; 303104];
     let state = session.state;
     let size = picture_bytes(state.p, state.t, state.m);
     let done = turns::class(

@@ -22,7 +22,7 @@ fn turn(
     numbers: &mut [u8],
     out: &mut [u8],
 ) -> Progress
-    requires { ⌜ (1025 ≤ length (now bytes)) × (512 ≤ length (now numbers)) × (700000 ≤ length (now out)) ⌝ }
+    requires { ⌜ (2049 ≤ length (now bytes)) × (1024 ≤ length (now numbers)) × (700000 ≤ length (now out)) ⌝ }
     ensures { λ r. ⌜ Turn course (s .input) (now (chunk .entry)) (context-of (s .shell) (now (journal .entry)) (now (scripts .entry))) (r .input) (now (chunk .exit)) (context-of (r .shell) (now (journal .exit)) (now (scripts .exit))) (take (r .written) (now (out .exit))) (r .ended) ⌝ }
 {
     let shell = s.shell;
@@ -64,7 +64,7 @@ fn run(
     numbers: &mut [u8],
     out: &mut [u8],
 )
-    requires { ⌜ (1025 ≤ length (now bytes)) × (512 ≤ length (now numbers)) × (700000 ≤ length (now out)) ⌝ }
+    requires { ⌜ (2049 ≤ length (now bytes)) × (1024 ≤ length (now numbers)) × (700000 ≤ length (now out)) ⌝ }
     ensures { λ _. ⌜ Run course (started-with (now (journal .entry)) (now (scripts .entry))) ⌝ }
 {
     let shell = shell::new();
@@ -85,13 +85,13 @@ fn run(
     }
 }
 
-// A line of more than 1,024 bytes shows by its first 1,025. No response has more than 700,000 bytes. Scripts of 32 threads, all empty, take 416.
+// A line of more than 2,048 bytes shows by its first 2,049. No response has more than 700,000 bytes. Scripts of 32 threads, all empty, take 416.
 fn main() {
     let mut journal = [0u8; 12000];
     let mut scripts = [0u8; 416];
     let mut chunk = [0u8; 512];
-    let mut bytes = [0u8; 1025];
-    let mut numbers = [0u8; 512];
+    let mut bytes = [0u8; 2049];
+    let mut numbers = [0u8; 1024];
     let mut out = [0u8; 700000];
     run(
         &mut journal,

@@ -9,7 +9,7 @@ slice-aggregate-run-6 : tie.Need-slice-aggregate-run-6
 slice-aggregate-run-6 c = counted 700000 _ refl
 
 run-requires : tie.Need-run-requires
-run-requires c κs = (roomy 1025 _ refl, roomy 512 _ refl, roomy 700000 _ refl)
+run-requires c κs = (roomy 2049 _ refl, roomy 1024 _ refl, roomy 700000 _ refl)
 
 pub main-spec : {M : Type 1} → statement M
 main-spec =

@@ -1,5 +1,4 @@
 -- `command::printing::put_short` meets its contract.
-use Prim.Native.Nat.{_-_}
 use mathlib.Core.Path.{ap, _∙_}
 use borrow.Author.Needs.{needs}
 use Rattle.command.specs.Printing.{add}

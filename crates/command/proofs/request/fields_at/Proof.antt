@@ -10,10 +10,10 @@ use Rattle.command.proofs.request.fields_at.Statement.{statement}
 use Rattle.command.proofs.request.fields_at.Tie as tie
 
 abbrev Inv-loop : tie.InvT-loop
-Inv-loop s at numbers₀ count₀ end₀ numbers count end = (count ≤ 512) × (end ≤ at + 255 * count) × (length numbers ≡ length numbers₀) × Row s at numbers₀ numbers count end
+Inv-loop s at numbers₀ count₀ end₀ numbers count end = (count ≤ 1024) × (end ≤ at + 255 * count) × (length numbers ≡ length numbers₀) × Row s at numbers₀ numbers count end
 
 abbrev μ-loop : tie.MeasureT-loop
-μ-loop s at numbers₀ count₀ end₀ numbers count end = 512 - count
+μ-loop s at numbers₀ count₀ end₀ numbers count end = 1024 - count
 
 loop-holds : tie.Need-loop-holds Inv-loop μ-loop
 loop-holds c = (omega arith, omega arith, refl, row-none _ _ _)

@@ -8,76 +8,96 @@ use borrow.Author.Needs.{needs}
 use Rattle.course.proofs.answers.early_line.Statement.{statement}
 use Rattle.course.proofs.answers.early_line.Tie as tie
 
+mark-line-requires : tie.Need-mark-line-requires
+mark-line-requires c κs = let k = c .before .before in rw (k .request5 .given .1) at (k .before .before .before .before .before .before .pre .1)
+
 returns : tie.Need-returns
 returns c =
     let l = c .before .before .before .before .before .before in
     let k = l .before .before .before .before .before in
-    ((λ b. rw (k .request .given .1) (l .stepper-line .ensures .0)), (λ b. rw (k .request .given .1) (l .stepper-line .ensures .1)))
+    rw (k .request .given .1) (l .stepper-line .ensures .0, l .stepper-line .ensures .1)
 
 returns-2 : tie.Need-returns-2
 returns-2 c =
     let u = c .before .before in
     let k = u .before .before .before in
-    let s = k .before .before .before .before .before in
+    let s = k .before .before .before .before .before .before in
     let a = s .args in
-    let e = k .request2 .given .1 in (
-      (λ b. rw e (ap (λ (h : shell.Context). in-context h (a .scripts .now)) (u .unknown .ensures .0 (a .journal .now)) ∙ early-left (a .shell) (a .journal .now) (a .scripts .now) (s .pre) _ tt)),
-      (λ b. rw e (u .unknown .ensures .1 ∙ early-text (a .shell) (a .journal .now) (a .scripts .now) (s .pre) _ _ tt)),
+    rw (k .request2 .given .1) (
+      ap (λ (h : shell.Context). in-context h (a .scripts .now)) (u .unknown .ensures .0 (a .journal .now)) ∙ early-left (a .shell) (a .journal .now) (a .scripts .now) (s .pre .0) _ tt,
+      u .unknown .ensures .1 ∙ early-text (a .shell) (a .journal .now) (a .scripts .now) (s .pre .0) _ _ tt,
     )
 
 returns-3 : tie.Need-returns-3
 returns-3 c =
     let u = c .before .before in
     let k = u .before .before .before in
-    let s = k .before .before .before .before .before in
+    let s = k .before .before .before .before .before .before in
     let a = s .args in
-    let e = k .request3 .given .1 in (
-      (λ b. rw e (ap (λ (h : shell.Context). in-context h (a .scripts .now)) (u .unknown2 .ensures .0 (a .journal .now)) ∙ early-left (a .shell) (a .journal .now) (a .scripts .now) (s .pre) _ tt)),
-      (λ b. rw e (u .unknown2 .ensures .1 ∙ early-text (a .shell) (a .journal .now) (a .scripts .now) (s .pre) _ _ tt)),
+    rw (k .request3 .given .1) (
+      ap (λ (h : shell.Context). in-context h (a .scripts .now)) (u .unknown2 .ensures .0 (a .journal .now)) ∙ early-left (a .shell) (a .journal .now) (a .scripts .now) (s .pre .0) _ tt,
+      u .unknown2 .ensures .1 ∙ early-text (a .shell) (a .journal .now) (a .scripts .now) (s .pre .0) _ _ tt,
     )
 
 returns-4 : tie.Need-returns-4
 returns-4 c =
     let u = c .before .before in
     let k = u .before .before .before in
-    let s = k .before .before .before .before .before in
+    let s = k .before .before .before .before .before .before in
     let a = s .args in
-    let e = k .request4 .given .1 in (
-      (λ b. rw e (ap (λ (h : shell.Context). in-context h (a .scripts .now)) (u .unknown3 .ensures .0 (a .journal .now)) ∙ early-left (a .shell) (a .journal .now) (a .scripts .now) (s .pre) _ tt)),
-      (λ b. rw e (u .unknown3 .ensures .1 ∙ early-text (a .shell) (a .journal .now) (a .scripts .now) (s .pre) _ _ tt)),
+    rw (k .request4 .given .1) (
+      ap (λ (h : shell.Context). in-context h (a .scripts .now)) (u .unknown3 .ensures .0 (a .journal .now)) ∙ early-left (a .shell) (a .journal .now) (a .scripts .now) (s .pre .0) _ tt,
+      u .unknown3 .ensures .1 ∙ early-text (a .shell) (a .journal .now) (a .scripts .now) (s .pre .0) _ _ tt,
     )
 
 returns-5 : tie.Need-returns-5
 returns-5 c =
     let u = c .before .before in
     let k = u .before .before in
-    let s = k .before .before .before .before .before in
+    let s = k .before .before .before .before .before .before in
     let a = s .args in
-    let e = k .enum-told .given .1 in (
-      (λ b. rw e (ap (λ (h : shell.Context). in-context h (a .scripts .now)) (u .unknown4 .ensures .0 (a .journal .now)) ∙ early-left (a .shell) (a .journal .now) (a .scripts .now) (s .pre) _ tt)),
-      (λ b. rw e (u .unknown4 .ensures .1 ∙ early-text (a .shell) (a .journal .now) (a .scripts .now) (s .pre) _ _ tt)),
+    rw (k .enum-told .given .1) (
+      ap (λ (h : shell.Context). in-context h (a .scripts .now)) (u .unknown4 .ensures .0 (a .journal .now)) ∙ early-left (a .shell) (a .journal .now) (a .scripts .now) (s .pre .0) _ tt,
+      u .unknown4 .ensures .1 ∙ early-text (a .shell) (a .journal .now) (a .scripts .now) (s .pre .0) _ _ tt,
     )
 
 returns-6 : tie.Need-returns-6
 returns-6 c =
     let u = c .before .before in
     let k = u .before .before in
-    let s = k .before .before .before .before .before in
+    let s = k .before .before .before .before .before .before in
     let a = s .args in
-    let e = k .enum-told2 .given .1 in (
-      (λ b. rw e (ap (λ (h : shell.Context). in-context h (a .scripts .now)) (u .unknown5 .ensures .0 (a .journal .now)) ∙ early-left (a .shell) (a .journal .now) (a .scripts .now) (s .pre) _ tt)),
-      (λ b. rw e (u .unknown5 .ensures .1 ∙ early-text (a .shell) (a .journal .now) (a .scripts .now) (s .pre) _ _ tt)),
+    rw (k .enum-told2 .given .1) (
+      ap (λ (h : shell.Context). in-context h (a .scripts .now)) (u .unknown5 .ensures .0 (a .journal .now)) ∙ early-left (a .shell) (a .journal .now) (a .scripts .now) (s .pre .0) _ tt,
+      u .unknown5 .ensures .1 ∙ early-text (a .shell) (a .journal .now) (a .scripts .now) (s .pre .0) _ _ tt,
     )
 
 returns-7 : tie.Need-returns-7
 unfolding after
 returns-7 c =
     let l = c .before .before in
-    let k = l .before .before in
-    let a = k .before .before .before .before .before .args in (
-      (λ b. rw (k .enum-told3 .given .1) (ap (λ (d : Shell). context-of d (a .journal .now) (a .scripts .now)) (l .help-line .ensures .0))),
-      (λ b. rw (k .enum-told3 .given .1) (l .help-line .ensures .1 (a .journal .now) (a .scripts .now))),
+    let k = l .before .before .before in
+    let a = k .before .before .before .before .before .before .args in
+    rw (k .request5 .given .1) (ap (λ (d : Shell). context-of d (a .journal .now) (a .scripts .now)) (l .mark-line .ensures .0), l .mark-line .ensures .1 (a .journal .now) (a .scripts .now))
+
+returns-8 : tie.Need-returns-8
+returns-8 c =
+    let u = c .before .before in
+    let k = u .before .before .before in
+    let s = k .before .before .before .before .before .before in
+    let a = s .args in
+    rw (k .request6 .given .1) (
+      ap (λ (h : shell.Context). in-context h (a .scripts .now)) (u .unknown6 .ensures .0 (a .journal .now)) ∙ early-left (a .shell) (a .journal .now) (a .scripts .now) (s .pre .0) _ tt,
+      u .unknown6 .ensures .1 ∙ early-text (a .shell) (a .journal .now) (a .scripts .now) (s .pre .0) _ _ tt,
     )
+
+returns-9 : tie.Need-returns-9
+unfolding after
+returns-9 c =
+    let l = c .before .before in
+    let k = l .before .before in
+    let a = k .before .before .before .before .before .before .args in
+    rw (k .enum-told3 .given .1) (ap (λ (d : Shell). context-of d (a .journal .now) (a .scripts .now)) (l .help-line .ensures .0), l .help-line .ensures .1 (a .journal .now) (a .scripts .now))
 
 pub early-line-spec : {M : Type 1} → statement M
 early-line-spec =
@@ -93,6 +113,10 @@ early-line-spec =
     (λ c κs. search needs)
     (λ c. search needs)
     (λ c κs. search needs)
+    (λ c. search needs)
+    (λ c κs. search needs)
+    (λ c. search needs)
+    mark-line-requires
     (λ c. search needs)
     (λ c κs. search needs)
     (λ c. search needs)
@@ -112,4 +136,8 @@ early-line-spec =
     (λ c. search needs)
     returns-6
     (λ c. search needs)
-    returns-7)
+    returns-7
+    (λ c. search needs)
+    returns-8
+    (λ c. search needs)
+    returns-9)

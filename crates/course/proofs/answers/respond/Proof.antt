@@ -21,12 +21,12 @@ returns c =
 returns-2 : tie.Need-returns-2
 returns-2 c =
     let l = c .before .before .before .before .before .before in
-    let q = l .before .before .before .before .before .before .before in
+    let q = l .before .before .before .before .before .before .before .before in
     let s = q .before .before .before .before .before .before .before in
     let a = s .args in
     let k = context-of (a .shell) (a .journal .now) (a .scripts .now) in
     let e = asked-of _ _ _ (s .pre) (q .request-of .ensures .0) in
-    (l .early-line .ensures .0 (q .request-of .last .1 .0) ∙ ap (λ (x : Ask). after k x) e, l .early-line .ensures .1 (q .request-of .last .1 .0) ∙ ap (λ (x : Ask). add (buffer-of (a .out .now) 0) (response k x)) e)
+    (l .early-line .ensures .0 ∙ ap (λ (x : Ask). after k x) e, l .early-line .ensures .1 ∙ ap (λ (x : Ask). add (buffer-of (a .out .now) 0) (response k x)) e)
 
 pub respond-spec : {M : Type 1} → statement M
 respond-spec =

@@ -21,6 +21,12 @@ slice-aggregate-turns-line c =
     let h = rw (k .request4 .given .1) at (s .pre .1) in
     sym (length-take-le _ (s .args .numbers .now) h)
 
+mark-line-requires : tie.Need-mark-line-requires
+mark-line-requires c κs = let k = c .before .before in rw (k .request5 .given .1) at (k .before .before .before .before .before .before .pre .1)
+
+own-mark-line-requires : tie.Need-own-mark-line-requires
+own-mark-line-requires c κs = let k = c .before .before in let s = k .before .before .before .before .before .before in (s .pre .0, rw (k .request6 .given .1) at (s .pre .1))
+
 returns : tie.Need-returns
 returns c =
     let l = c .before .before .before .before .before .before in
@@ -66,6 +72,22 @@ returns-7 : tie.Need-returns-7
 unfolding after
 returns-7 c =
     let l = c .before .before in
+    let k = l .before .before .before in
+    let a = k .before .before .before .before .before .before .args in
+    rw (k .request5 .given .1) (ap (λ (d : Shell). context-of d (a .journal .now) (a .scripts .now)) (l .mark-line .ensures .0), l .mark-line .ensures .1 (a .journal .now) (a .scripts .now))
+
+returns-8 : tie.Need-returns-8
+unfolding after
+returns-8 c =
+    let l = c .before .before in
+    let k = l .before .before .before in
+    let a = k .before .before .before .before .before .before .args in
+    rw (k .request6 .given .1) (ap (λ (d : Shell). context-of d (a .journal .now) (a .scripts .now)) (l .own-mark-line .ensures .0), l .own-mark-line .ensures .1 (a .journal .now) (a .scripts .now))
+
+returns-9 : tie.Need-returns-9
+unfolding after
+returns-9 c =
+    let l = c .before .before in
     let k = l .before .before in
     let a = k .before .before .before .before .before .before .args in
     rw (k .enum-told3 .given .1) (ap (λ (d : Shell). context-of d (a .journal .now) (a .scripts .now)) (l .help-line .ensures .0), l .help-line .ensures .1 (a .journal .now) (a .scripts .now))
@@ -91,6 +113,10 @@ session-line-spec =
     (λ c. search needs)
     (λ c κs. search needs)
     (λ c. search needs)
+    mark-line-requires
+    (λ c. search needs)
+    own-mark-line-requires
+    (λ c. search needs)
     (λ c κs. search needs)
     (λ c. search needs)
     (λ c. search needs)
@@ -113,4 +139,8 @@ session-line-spec =
     (λ c. search needs)
     returns-6
     (λ c. search needs)
-    returns-7)
+    returns-7
+    (λ c. search needs)
+    returns-8
+    (λ c. search needs)
+    returns-9)
