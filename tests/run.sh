@@ -1,5 +1,5 @@
 #!/usr/bin/env bash
-# The tests from outside: builds the archive of crate exports, runs the C program over it, compares it with the independent
+# The tests from outside: builds the archive of crate exports, runs the C programs over it, compares it with the independent
 # implementation, runs that one's own tests, runs the line programs on the stored sessions, and compares course with the
 # independent one on random inputs. All output is below target/.
 # Its last line is 'N passed, M failed'. Needs the Rattle kit (rt), gcc, cargo, rustc and python3; no network.
@@ -43,12 +43,14 @@ run() { # NAME COMMAND...
     return "$status"
 }
 
-compile_c() {
-    gcc -std=c99 -O2 -Wall -Wextra -Werror -pedantic -Iinclude tests/c/check.c "$HUMDAYEG_LIB/libexports.a" -o "$logs/check"
+compile_c() { # NAME
+    gcc -std=c99 -O2 -Wall -Wextra -Werror -pedantic -Iinclude "tests/c/$1.c" "$HUMDAYEG_LIB/libexports.a" -o "$logs/$1"
 }
 
 if run archive rt staticlib exports; then
-    if run c-compile compile_c; then run c "$logs/check"; fi
+    for name in check marks; do
+        if run "c-$name-compile" compile_c "$name"; then run "c-$name" "$logs/$name"; fi
+    done
     run differential cargo test --release --offline --locked --manifest-path tests/differential/Cargo.toml
 fi
 run independent cargo test --release --offline --locked --manifest-path tests/independent/Cargo.toml

@@ -3,21 +3,9 @@
  * prints: the start picture, session S with K5, refusals with their places, buffer lengths,
  * reading, a ready queue for each processor, turns ahead and classes. Prints a line for each failed check and one with the counts.
  */
-#include "humdayeg.h"
+#include "checks.h"
 
-#include <stdio.h>
 #include <string.h>
-
-static unsigned passed, failed;
-
-static void check(int ok, const char *what) {
-    if (ok) {
-        passed++;
-    } else {
-        failed++;
-        printf("FAILED %s\n", what);
-    }
-}
 
 /* A start table. */
 struct table {
@@ -69,11 +57,6 @@ static int untouched(const struct outcome *out, size_t from) {
 static int refused(const struct outcome *out, uint8_t number, uint32_t place) {
     return out->number == number && out->place == place && untouched(out, 0);
 }
-
-/* Both processors lock mutex 1, 1 gets it, 2 goes to L3; 1 unlocks through U1, H2, H5 and
-   leaves at H6; 2 goes L3 to L10. */
-static const uint8_t K5[] = {1, 1, 1, 2, 1, 1, 1, 0, 0, 2, 0, 0, 1, 3, 1, 1, 0, 0, 1, 0, 0, 1, 0, 0,
-                             1, 0, 0, 2, 0, 0, 2, 0, 0, 2, 0, 0, 2, 0, 0, 2, 0, 0, 2, 0, 0, 2, 0, 0};
 
 static void starts(void) {
     static const uint8_t first[] = {1, 1, 1, 0, 0, 0, 0, 0, 0, 1, 0, 0, 0, 0, 0, 0,

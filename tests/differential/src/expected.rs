@@ -2,6 +2,7 @@
 
 use crate::{Ahead, Replayed, Table};
 use independent::machine::{Config, State};
+use independent::marks;
 use independent::picture;
 use independent::record::Snapshot;
 use independent::script;
@@ -84,4 +85,9 @@ pub fn ahead(bytes: &[u8], thread: u8) -> Ahead {
         session::Ahead::NotWaiting => Ahead::NotWaiting,
         session::Ahead::Refused(number) => Ahead::Refused(number),
     }
+}
+
+/// The mark or 20,000 and the number of the refusal.
+pub fn mark(machine: &[u8], candidate: &[u8]) -> u16 {
+    marks::answer(machine, candidate)
 }

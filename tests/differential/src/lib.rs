@@ -61,6 +61,12 @@ mod c {
         ) -> u8;
         pub fn humdayeg_read(picture: *const u8, picture_len: usize) -> u8;
         pub fn humdayeg_ahead(picture: *const u8, picture_len: usize, thread: u8) -> u8;
+        pub fn humdayeg_mark(
+            machine: *const u8,
+            machine_len: usize,
+            candidate: *const u8,
+            candidate_len: usize,
+        ) -> u16;
     }
 }
 
@@ -200,5 +206,14 @@ pub fn ahead(picture: &[u8], thread: u8) -> Ahead {
         100 => Ahead::NotWaiting,
         number @ 201..=216 => Ahead::Refused(number - 200),
         other => panic!("no answer: {other}"),
+    }
+}
+
+/// The mark of a candidate's picture against the machine's in hundredths, or 20,000 and the number
+/// of the refusal.
+pub fn mark(machine: &[u8], candidate: &[u8]) -> u16 {
+    // Both slices live through the call, which keeps neither.
+    unsafe {
+        c::humdayeg_mark(machine.as_ptr(), machine.len(), candidate.as_ptr(), candidate.len())
     }
 }

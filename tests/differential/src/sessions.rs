@@ -3,6 +3,7 @@
 use crate::{expected, replay, replay_with, Table};
 use independent::machine::{Move, State};
 use independent::random::{Call, Driver, Generator, Rates};
+use std::ops::Range;
 
 /// A start table with its choice of ready queues, accepted moves as bytes, and the state after
 /// each of them.
@@ -72,6 +73,19 @@ pub fn drive_with(
         }
     }
     session
+}
+
+/// Pictures of states all along random sessions.
+pub fn pictures(seeds: Range<u64>, calls: usize, each: usize) -> Vec<Vec<u8>> {
+    let mut all = Vec::new();
+    for seed in seeds {
+        let session = drive(seed, Rates::USUAL, calls, |_, _| ());
+        let mut generator = Generator::new(!seed);
+        for _ in 0..each {
+            all.push(expected::picture_of(&session.states[generator.below(session.states.len())]));
+        }
+    }
+    all
 }
 
 /// A buffer of bytes that no picture has all through.

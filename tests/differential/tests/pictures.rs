@@ -1,29 +1,16 @@
 //! Reading through the static library against the independent reader: right pictures, damaged
 //! ones, boundary lengths, any bytes.
 
-use differential::expected::{self, picture_of};
+use differential::expected;
 use differential::read;
-use differential::sessions::drive;
+use differential::sessions::pictures;
 use independent::picture::length;
-use independent::random::{Generator, Rates};
+use independent::random::Generator;
 
 fn compare(bytes: &[u8]) -> u8 {
     let number = read(bytes);
     assert_eq!(number, expected::read(bytes), "{bytes:?}");
     number
-}
-
-/// Pictures of states all along random sessions.
-fn pictures(seeds: std::ops::Range<u64>, calls: usize, each: usize) -> Vec<Vec<u8>> {
-    let mut all = Vec::new();
-    for seed in seeds {
-        let session = drive(seed, Rates::USUAL, calls, |_, _| ());
-        let mut generator = Generator::new(!seed);
-        for _ in 0..each {
-            all.push(picture_of(&session.states[generator.below(session.states.len())]));
-        }
-    }
-    all
 }
 
 /// Where the processor, mutex and thread records begin.

@@ -1,8 +1,8 @@
-//! The stored vectors through the static library: pictures, turns ahead, classes, and the
+//! The stored vectors through the static library: pictures, turns ahead, classes, marks, and the
 //! program's sessions with each answer worked out by a replay.
 
 use differential::{
-    ahead, class, class_with, read, replay_with, Ahead, Replayed, Table, MOST_PICTURE,
+    ahead, class, class_with, mark, read, replay_with, Ahead, Replayed, Table, MOST_PICTURE,
 };
 use std::collections::BTreeMap;
 use std::fs;
@@ -196,6 +196,43 @@ fn boundaries_of_classes() {
                 assert!(answers.iter().chain(&pictures).all(|&byte| byte == 0xa5), "{line}");
             }
         }
+    }
+}
+
+#[test]
+fn marks() {
+    let mut met = Vec::new();
+    for path in files("marks", ".txt") {
+        let text = text(&path);
+        let mut lines = text.lines();
+        let machine = unhex(lines.next().unwrap().strip_prefix("machine ").unwrap());
+        assert_eq!(read(&machine), 0);
+        for line in lines {
+            let (answer, candidate) = line.split_once(' ').unwrap();
+            let wanted: u16 = answer.parse().unwrap();
+            assert_eq!(mark(&machine, &unhex(candidate)), wanted, "{} {line}", path.display());
+            met.push(wanted);
+        }
+    }
+    for wanted in [0, 156, 8_823, 9_609, 9_843, 10_000] {
+        assert!(met.contains(&wanted), "{wanted}");
+    }
+}
+
+#[test]
+fn lists_of_marks() {
+    let mut met = Vec::new();
+    for path in files("marks", ".list") {
+        for line in text(&path).lines() {
+            let words: Vec<&str> = line.split(' ').collect();
+            let &[answer, machine, candidate] = &words[..] else { panic!("{line}") };
+            let wanted: u16 = answer.parse().unwrap();
+            assert_eq!(mark(&unhex(machine), &unhex(candidate)), wanted, "{line}");
+            met.push(wanted);
+        }
+    }
+    for wanted in [0, 10_000, 20_011, 20_012, 20_013, 20_014] {
+        assert!(met.contains(&wanted), "{wanted}");
     }
 }
 

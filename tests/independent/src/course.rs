@@ -1,9 +1,11 @@
 //! The line program for people: the lines of `program`, answered alike, and `script`, `turn`,
-//! `turns`, `view`, `chart`, `help`. An answer for people has several lines, the last one empty.
+//! `turns`, `view`, `chart`, `mark`, `help`. An answer for people has several lines, the last one
+//! empty.
 
 use crate::chart::chart;
-use crate::lines::{self, number, words, LineProgram};
+use crate::lines::{self, bytes, number, words, LineProgram};
 use crate::machine::{Move, CREATE, LOCK, MOST_THREADS};
+use crate::marks;
 use crate::picture;
 use crate::program::{self, Program};
 use crate::record::Record;
@@ -25,6 +27,8 @@ turn p           a turn of processor p, by its thread's script
 turns p p ..     turns one after the other: for each its answer, then the picture
 view             the state as a table
 chart            the moves that stand, a column for each processor
+mark HEX HEX     the mark of a picture: the machine's, then the candidate's
+mark HEX         the mark of a candidate's picture against the session's
 help             these lines
 ";
 
@@ -35,6 +39,8 @@ enum Command {
     Turns(Vec<u8>),
     View,
     Chart,
+    /// The machine's picture, where it is not the session's, and the candidate's.
+    Mark(Option<Vec<u8>>, Vec<u8>),
     Help,
 }
 
@@ -48,6 +54,10 @@ fn parse(line: &[u8]) -> Option<Command> {
         [b"turns", _, ..] => Some(Command::Turns(numbers(&words[1..])?)),
         [b"view"] => Some(Command::View),
         [b"chart"] => Some(Command::Chart),
+        [b"mark", machine, candidate] => {
+            Some(Command::Mark(Some(bytes(machine)?), bytes(candidate)?))
+        }
+        [b"mark", candidate] => Some(Command::Mark(None, bytes(candidate)?)),
         [b"help"] => Some(Command::Help),
         _ => program::Command::parse(line).map(Command::Plain),
     }
@@ -76,7 +86,7 @@ impl Default for Course {
 }
 
 impl LineProgram for Course {
-    const LONGEST_LINE: usize = 1_024;
+    const LONGEST_LINE: usize = 2_048;
 
     /// What is for people has a line feed at each line's end, so that the one that ends the
     /// answer makes an empty line.
@@ -88,6 +98,7 @@ impl LineProgram for Course {
             Command::Turns(turns) => self.turns(&turns),
             Command::View => Some(view(&self.record()?.state()?)),
             Command::Chart => self.chart(),
+            Command::Mark(machine, candidate) => self.mark(machine, &candidate),
             Command::Help => Some(HELP.to_string()),
         }
     }
@@ -157,6 +168,18 @@ impl Course {
         let moves: Vec<Move> =
             front.chunks_exact(3).map(|made| [made[0], made[1], made[2]]).collect();
         Some(chart(record.config(), &moves))
+    }
+
+    /// The mark, or the refusal's number; only the session's picture needs a session.
+    fn mark(&self, machine: Option<Vec<u8>>, candidate: &[u8]) -> Option<String> {
+        let machine = match machine {
+            Some(bytes) => bytes,
+            None => program::shown(self.record()?),
+        };
+        Some(match marks::mark(&machine, candidate) {
+            Ok(mark) => marks::shown(mark),
+            Err(number) => number.to_string(),
+        })
     }
 }
 

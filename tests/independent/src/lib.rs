@@ -1,6 +1,6 @@
 //! An independent implementation of the hand-off machine of document 01, of
-//! scripted threads (document 02, No. 7) and of a ready queue for each processor
-//! (No. 13).
+//! scripted threads (document 02, No. 7), of marks (No. 12) and of a ready queue
+//! for each processor (No. 13).
 //!
 //! Terms of document 01 and the names used here: loaded is `current`, hand is
 //! `transit`, rank is `sequence`, seen is `observed`, standing moves are
@@ -14,12 +14,14 @@
 //! - `picture`: a snapshot's bytes, written and read.
 //! - `session`: the calls on a session record and a lent journal.
 //! - `script`: scripts, turns and classes.
+//! - `marks`: marks for handed-in pictures.
 //! - `plain`: the plain session, ownership by history and the laws.
-//! - `lines`: what line programs share: lines, answers, numbers.
+//! - `lines`: what line programs share: lines, answers, numbers, bytes.
 //! - `program`: the line program.
 //! - `course`: the line program for people; `view` and `chart` are its tables.
 //! - `random`: random sessions from a seed.
 //! - `random_scripts`: random scripts and lists of turns.
+//! - `random_marks`: random pictures to mark.
 //! - `random_course`: random inputs for the program `course`.
 //! - `spelling`: commands as lines.
 //! - `slips`: lines that are no command of it.
@@ -29,11 +31,13 @@ pub mod chart;
 pub mod course;
 pub mod lines;
 pub mod machine;
+pub mod marks;
 pub mod picture;
 pub mod plain;
 pub mod program;
 pub mod random;
 pub mod random_course;
+pub mod random_marks;
 pub mod random_scripts;
 pub mod record;
 pub mod script;

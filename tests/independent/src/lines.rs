@@ -1,4 +1,4 @@
-//! What line programs share: input cut into lines, an answer to each, numbers in a line.
+//! What line programs share: input cut into lines, an answer to each, numbers and bytes in a line.
 
 use std::io::{self, ErrorKind, Read, Write};
 
@@ -30,6 +30,23 @@ pub fn number(word: &[u8]) -> Option<u8> {
     }
     let value = word.iter().fold(0u16, |value, digit| 10 * value + u16::from(digit - b'0'));
     u8::try_from(value).ok()
+}
+
+/// One byte or more, each as two lower-case hexadecimal digits.
+pub fn bytes(word: &[u8]) -> Option<Vec<u8>> {
+    let pairs = word.chunks_exact(2);
+    if word.is_empty() || !pairs.remainder().is_empty() {
+        return None;
+    }
+    pairs.map(|pair| Some(16 * digit(pair[0])? + digit(pair[1])?)).collect()
+}
+
+fn digit(byte: u8) -> Option<u8> {
+    match byte {
+        b'0'..=b'9' => Some(byte - b'0'),
+        b'a'..=b'f' => Some(byte - b'a' + 10),
+        _ => None,
+    }
 }
 
 /// Cuts input into lines and answers each; what follows the last line feed is kept.

@@ -73,7 +73,7 @@ impl Program {
         let changed = match command {
             Command::Move(made) => session::make_move(record, journal, made),
             Command::Back => session::undo(record, journal),
-            _ => return Some(show(record)),
+            _ => return Some(picture::hex(&shown(record))),
         };
         *record = changed.value;
         Some(changed.number.to_string())
@@ -89,12 +89,13 @@ impl Program {
     }
 }
 
-fn show(record: &Record) -> String {
+/// The picture of a session.
+pub fn shown(record: &Record) -> Vec<u8> {
     let shown = &record.snapshot;
     let mut bytes = vec![0; picture::length(shown.processors, shown.threads, shown.mutexes)];
     let number = picture::write(shown, &mut bytes);
     assert_eq!(number, 0);
-    picture::hex(&bytes)
+    bytes
 }
 
 /// Cuts input into lines and answers each.

@@ -1,6 +1,6 @@
 //! Random inputs for the line program `course` from a seed: lively sessions of moves, steps back,
-//! scripts, turns and classes, looked at now and then, with wrong lines between. They are made
-//! along the program's own session, so that most calls are accepted.
+//! scripts, turns and classes, looked at and marked now and then, with wrong lines between. They
+//! are made along the program's own session, so that most calls are accepted.
 //!
 //! ```
 //! use independent::{course, random_course};
@@ -11,8 +11,10 @@
 
 use crate::course::Reader;
 use crate::machine::{Config, Position, State};
+use crate::program;
 use crate::random::{is_stuck, Call, Driver, Generator, Rates};
 use crate::spelling;
+use crate::worked::Worked;
 
 const RATES: Rates = Rates { refused: 12, undo: 60 };
 
@@ -40,6 +42,8 @@ struct Writer {
     lines: usize,
     /// Of 100 calls so many are turns, the others are moves; chosen anew at each start.
     turns: usize,
+    /// A picture shown some time before, by this session or an earlier one.
+    earlier: Vec<u8>,
 }
 
 impl Writer {
@@ -50,6 +54,7 @@ impl Writer {
             input: Vec::new(),
             lines: 0,
             turns: 0,
+            earlier: Worked::new(Config::new(2, 2, 1, 2)).picture(),
         }
     }
 
@@ -110,6 +115,7 @@ impl Writer {
             7 if self.driver.generator.once_in(2) => b"chart".to_vec(),
             8 if self.driver.generator.once_in(5) => b"help".to_vec(),
             9..=15 => self.any_line(),
+            16..=20 => self.mark_line(),
             _ if self.driver.generator.below(100) < self.turns => self.turn_line(state),
             _ => self.call_line(state),
         }
@@ -140,19 +146,48 @@ impl Writer {
         format!("turn {p}").into_bytes()
     }
 
+    /// The picture that `show` gives.
+    fn picture(&self) -> Option<Vec<u8>> {
+        self.reader.program().record().map(program::shown)
+    }
+
+    /// A mark against the session's picture, or of two pictures, each of which may be an earlier one.
+    fn mark_line(&mut self) -> Vec<u8> {
+        let now = self.picture().unwrap_or(self.earlier.clone());
+        let generator = &mut self.driver.generator;
+        let machine = generator.pick(&[&now, &now, &self.earlier]);
+        let start = Worked::new(generator.config()).picture();
+        let meant = generator.pick(&[machine, machine, machine, &now, &self.earlier, &start]);
+        let candidate = generator.candidate(meant);
+        let line = match generator.below(4) {
+            0 => spelling::mark(&candidate),
+            1 => spelling::mark_of(&generator.broken(machine), &candidate),
+            _ => spelling::mark_of(machine, &candidate),
+        };
+        if generator.once_in(6) {
+            self.earlier = now;
+        }
+        match generator.below(12) {
+            0 => line.to_uppercase().replacen("MARK", "mark", 1).into_bytes(),
+            1 => damaged(generator, line.into_bytes()),
+            _ => line.into_bytes(),
+        }
+    }
+
     /// A line that may be refused or no command.
     fn any_line(&mut self) -> Vec<u8> {
         let config = self.config().unwrap_or(Config::new(2, 3, 1, 2));
         let generator = &mut self.driver.generator;
-        match generator.below(8) {
+        match generator.below(9) {
             0..=1 => any_script(generator, config).into_bytes(),
             2 => odd_turns(generator, config).into_bytes(),
             3 => refused_start(generator).into_bytes(),
             4 => long_line(generator),
             5 => {
                 let length = generator.below(30);
-                (0..length).map(|_| generator.byte()).collect()
+                generator.bytes(length)
             }
+            6 => self.mark_line(),
             _ => {
                 let line = command(generator, config);
                 damaged(generator, line.into_bytes())
@@ -198,11 +233,15 @@ fn refused_start(generator: &mut Generator) -> String {
     })
 }
 
+/// What a long line begins with.
+const LONG_LINES: [&str; 7] =
+    ["view", "chart", "turns 1", "script 1", "mark 01", "mark 01 01", "help"];
+
 /// A command with spaces, numbers or letters up to about the longest line.
 fn long_line(generator: &mut Generator) -> Vec<u8> {
-    let mut line = generator.pick(&["view", "chart", "turns 1", "script 1", "help"]).to_string();
-    let filler = generator.pick(&[" ", " 0", " 1", " 1 1", "x"]);
-    let length = usize::from(generator.between(0, 4)) + generator.pick(&[62, 1_022]);
+    let mut line = generator.pick(&LONG_LINES).to_string();
+    let filler = generator.pick(&[" ", " 0", " 1", " 1 1", "x", "0", "00"]);
+    let length = usize::from(generator.between(0, 4)) + generator.pick(&[62, 1_022, 2_046]);
     while line.len() < length {
         line.push_str(filler);
     }

@@ -2,7 +2,7 @@
 //! with each slip of spelling.
 
 /// Each command as it is spelled.
-const COMMANDS: [&str; 12] = [
+const COMMANDS: [&str; 14] = [
     "start 2 3 1 2",
     "start 2 3 1 2 1",
     "move 1 1 1",
@@ -14,11 +14,13 @@ const COMMANDS: [&str; 12] = [
     "turns 1 2 1",
     "view",
     "chart",
+    "mark 0a1f",
+    "mark 0a1f 3c",
     "help",
 ];
 
-/// Too few words or too many; of a script's numbers an odd count.
-const COUNTS: [&str; 30] = [
+/// Too few words or too many; of a script's numbers or a picture's digits an odd count.
+const COUNTS: [&str; 36] = [
     "start",
     "start 1",
     "start 1 1",
@@ -47,6 +49,12 @@ const COUNTS: [&str; 30] = [
     "view view",
     "chart 1",
     "chart 1 2",
+    "mark",
+    "mark 1",
+    "mark 1 1",
+    "mark 01 01 01",
+    "mark 01 01 01 01",
+    "mark mark 01",
     "help 1",
     "help view",
 ];
@@ -65,6 +73,7 @@ pub fn no_commands() -> Vec<String> {
 fn slips(line: &str) -> Vec<String> {
     let (word, numbers) = line.split_once(' ').unwrap_or((line, ""));
     let rest = &line[word.len()..];
+    let odd_words = if word == "mark" { odd_digits } else { odd_numbers };
     let mut all = vec![
         format!("{line} "),
         format!("{line}\r"),
@@ -81,19 +90,47 @@ fn slips(line: &str) -> Vec<String> {
     for (at, _) in line.match_indices(' ') {
         let with = |between: &str| format!("{}{between}{}", &line[..at], &line[at + 1..]);
         all.extend(["  ", "\t", ",", "x", " x "].map(with));
-        all.extend(odd_numbers(line, at + 1));
+        all.extend(odd_words(line, at + 1));
     }
     all
 }
 
+/// The line in front of the word that begins at a place, the word, and what is behind it.
+fn around(line: &str, at: usize) -> (&str, &str, &str) {
+    let (front, back) = line.split_at(at);
+    let (word, rest) = back.split_at(back.find(' ').unwrap_or(back.len()));
+    (front, word, rest)
+}
+
 /// The line with the number that begins at a place replaced by what is none.
 fn odd_numbers(line: &str, at: usize) -> Vec<String> {
-    let (front, back) = line.split_at(at);
-    let number = &back[..back.find(' ').unwrap_or(back.len())];
-    let rest = &back[number.len()..];
+    let (front, number, rest) = around(line, at);
     let zeros = [format!("0{number}"), format!("00{number}")];
     let signed = [format!("+{number}"), format!("-{number}"), format!("{number}.")];
     let wide = ["256", "257", "999", "1000", "4294967297", "18446744073709551617", "x", "0x1"];
     let all = zeros.into_iter().chain(signed).chain(wide.map(str::to_string));
     all.map(|odd| format!("{front}{odd}{rest}")).collect()
+}
+
+/// The line with the digits that begin at a place replaced by what is no byte.
+fn odd_digits(line: &str, at: usize) -> Vec<String> {
+    let (front, digits, rest) = around(line, at);
+    let mut odd = vec![
+        String::new(),
+        digits[1..].to_string(),
+        digits[..digits.len() - 1].to_string(),
+        format!("{digits}0"),
+        format!("0x{digits}"),
+        format!("{}h", &digits[1..]),
+        digits.to_uppercase(),
+        digits.replace(|digit: char| digit.is_ascii_alphabetic(), "B"),
+    ];
+    // What stands beside the digits in ASCII, and other signs.
+    for sign in ["/", ":", "@", "`", "g", "A", "F", "G", "-", "+", "?", ".", "\0"] {
+        odd.push(format!("{sign}{}", &digits[1..]));
+        odd.push(format!("{}{sign}", &digits[..digits.len() - 1]));
+    }
+    // A character of two bytes in the place of two digits.
+    odd.push(format!("\u{80}{}", &digits[2..]));
+    odd.into_iter().map(|word| format!("{front}{word}{rest}")).collect()
 }

@@ -1,6 +1,7 @@
 //! Commands as lines of input.
 
 use crate::machine::{Config, Move};
+use crate::picture::hex;
 
 /// Lines as input, each ended by a line feed.
 pub fn input<T: AsRef<[u8]>>(lines: &[T]) -> Vec<u8> {
@@ -36,6 +37,16 @@ pub fn scripts(config: Config, scripts: &[u8]) -> Vec<String> {
 
 pub fn turns(turns: &[u8]) -> String {
     format!("turns{}", numbers(turns))
+}
+
+/// The mark of a candidate's picture against the session's.
+pub fn mark(candidate: &[u8]) -> String {
+    format!("mark {}", hex(candidate))
+}
+
+/// The mark of a candidate's picture against a machine's.
+pub fn mark_of(machine: &[u8], candidate: &[u8]) -> String {
+    format!("mark {} {}", hex(machine), hex(candidate))
 }
 
 /// Each number after a space.

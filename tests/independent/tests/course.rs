@@ -1,6 +1,10 @@
 //! The line program for people: its commands, their refusals at the boundaries, lines that are no
-//! command, in memory and as a process. `course_tables.rs` has what `view` and `chart` show.
+//! command, in memory and as a process. `course_tables.rs` has what `view` and `chart` show,
+//! `course_marks.rs` the marks.
 
+mod asked;
+
+use asked::Session;
 use independent::course::{run, Reader};
 use independent::lines::Reader as LineReader;
 use independent::picture;
@@ -22,65 +26,22 @@ turn p           a turn of processor p, by its thread's script
 turns p p ..     turns one after the other: for each its answer, then the picture
 view             the state as a table
 chart            the moves that stand, a column for each processor
+mark HEX HEX     the mark of a picture: the machine's, then the candidate's
+mark HEX         the mark of a candidate's picture against the session's
 help             these lines
 
 ";
 
-/// A session with its answers, a line at a time.
-struct Session {
-    reader: Reader,
-}
-
-impl Session {
-    /// After these lines, each of which is answered by 0.
-    fn after(lines: &[&str]) -> Session {
-        let mut session = Session { reader: Reader::default() };
-        for line in lines {
-            assert_eq!(session.ask(line), "0\n", "{line}");
-        }
-        session
-    }
-
-    /// Two processors, three threads of which the third is new; scripts for two.
-    fn small() -> Session {
-        Session::after(&["start 2 3 1 2", "script 1 1 1 6 3 3 1", "script 2 1 1 3 1", "move 1 4 0"])
-    }
-
-    fn ask(&mut self, line: impl AsRef<[u8]>) -> String {
-        assert_eq!(self.reader.feed(line.as_ref()), "");
-        self.reader.feed(b"\n")
-    }
-
-    /// All that the session shows, and what its scripts give next, with the state left as it was.
-    fn all(&mut self) -> Vec<String> {
-        let mut all = ["view", "chart", "show"].map(|line| self.ask(line)).to_vec();
-        let turns = [1, 2, 1, 2, 1, 2, 1, 1, 1, 2, 2, 2];
-        for p in turns {
-            all.push(self.ask(format!("turn {p}")) + &self.ask("show"));
-        }
-        for answer in all.clone().iter().skip(3) {
-            if answer.starts_with("0\n") {
-                assert_eq!(self.ask("back"), "0\n");
-            }
-        }
-        all
-    }
-
-    /// The line gets this answer, and nothing changes.
-    fn keeps(&mut self, line: impl AsRef<[u8]>, answer: &str) {
-        let line = line.as_ref();
-        let before = self.all();
-        let shown = String::from_utf8_lossy(line).into_owned();
-        assert_eq!(self.ask(line), answer, "{shown:?}");
-        assert_eq!(self.all(), before, "{shown:?}");
-    }
+/// Two processors, three threads of which the third is new; scripts for two.
+fn small() -> Session {
+    Session::after(&["start 2 3 1 2", "script 1 1 1 6 3 3 1", "script 2 1 1 3 1", "move 1 4 0"])
 }
 
 #[test]
 fn help() {
     assert_eq!(run(b"help\n"), HELP);
     assert_eq!(run(b"help"), HELP);
-    Session::small().keeps("help", HELP);
+    small().keeps("help", HELP);
 }
 
 #[test]
@@ -88,7 +49,7 @@ fn before_a_start() {
     for line in ["move 1 0 0", "back", "show", "script 1", "script 1 1 1", "script 0 9 9"] {
         assert_eq!(run(line.as_bytes()), "?\n", "{line}");
     }
-    for line in ["turn 1", "turn 0", "turns 1", "turns 0 9", "view", "chart"] {
+    for line in ["turn 1", "turn 0", "turns 1", "turns 0 9", "view", "chart", "mark 01"] {
         assert_eq!(run(line.as_bytes()), "?\n", "{line}");
         // A refused start begins no session.
         assert_eq!(run(format!("start 9 1 1 1\n{line}").as_bytes()), "1\n?\n", "{line}");
@@ -99,7 +60,7 @@ fn before_a_start() {
 /// Too few words, too many, odd ones; capitals, spaces, other bytes.
 #[test]
 fn no_commands() {
-    let mut session = Session::small();
+    let mut session = small();
     let lines = slips::no_commands();
     assert!(lines.len() > 500);
     for line in lines {
@@ -109,7 +70,7 @@ fn no_commands() {
 
 #[test]
 fn any_bytes() {
-    let mut session = Session::small();
+    let mut session = small();
     for byte in (0..=255).filter(|&byte| byte != b'\n') {
         let with = |front: &str, back: &str| [front.as_bytes(), &[byte], back.as_bytes()].concat();
         for line in [with("", ""), with("view", ""), with("", "chart"), with("he", "lp")] {
@@ -129,7 +90,7 @@ fn any_bytes() {
 /// 3 for a thread that is not there, before 19 for what is no script.
 #[test]
 fn script_refusals() {
-    let mut session = Session::small();
+    let mut session = small();
     let pairs = |count: usize| " 4 0".repeat(count);
     for thread in [0, 4, 32, 33, 255] {
         session.keeps(format!("script {thread}"), "3\n");
@@ -198,7 +159,7 @@ fn scripts_during_a_session() {
 
 #[test]
 fn turn_refusals() {
-    let mut session = Session::small();
+    let mut session = small();
     for p in [0, 3, 8, 9, 255] {
         session.keeps(format!("turn {p}"), "2\n");
     }
@@ -273,7 +234,7 @@ fn turns_are_turns_and_pictures() {
 /// Scripts are empty after an accepted start, and kept after a refused one.
 #[test]
 fn starts_and_scripts() {
-    let mut session = Session::small();
+    let mut session = small();
     for line in
         ["start 0 3 1 2", "start 2 33 1 2", "start 2 3 9 2", "start 2 3 1 4", "start 2 3 1 2 2"]
     {
@@ -293,24 +254,24 @@ fn starts_and_scripts() {
     assert!(session.ask("chart").contains("\n4     exit\n"));
 }
 
-/// Lines of 1,024 bytes are read, longer ones are not.
+/// Lines of 2,048 bytes are read, longer ones are not.
 #[test]
 fn longest_lines() {
     let mut session = Session::after(&["start 1 1 1 1", "script 1 4 0"]);
-    let turns = spelling::turns(&[9; 508]);
-    assert_eq!(turns.len(), 1_021);
+    let turns = spelling::turns(&[9; 1_020]);
+    assert_eq!(turns.len(), 2_045);
     for (last, read) in [(" 9", true), (" 19", true), (" 119", false)] {
         let line = format!("{turns}{last}");
         let answer = session.ask(&line);
-        assert_eq!(answer.lines().count(), if read { 2 * 509 } else { 1 }, "{}", line.len());
+        assert_eq!(answer.lines().count(), if read { 2 * 1_021 } else { 1 }, "{}", line.len());
         assert_eq!(answer == "?\n", !read);
     }
-    let script = format!("script 1{}", " 4 0".repeat(254));
-    assert_eq!(script.len(), 1_024);
+    let script = format!("script 1{}", " 4 0".repeat(510));
+    assert_eq!(script.len(), 2_048);
     session.keeps(&script, "19\n");
     session.keeps(format!("{script} 4 0"), "?\n");
-    session.keeps(format!("script 10{}", " 4 0".repeat(254)), "?\n");
-    for length in [64, 65, 1_000, 1_023, 1_024, 1_025, 1_026, 2_048, 5_000] {
+    session.keeps(format!("script 10{}", " 4 0".repeat(510)), "?\n");
+    for length in [64, 65, 1_000, 1_024, 1_025, 2_047, 2_048, 2_049, 2_050, 5_000] {
         for tail in ["", "view", "chart", "\r"] {
             session.keeps([&vec![b'x'; length][..], tail.as_bytes()].concat(), "?\n");
             session.keeps([b"view", &vec![b' '; length][..]].concat(), "?\n");
@@ -341,7 +302,7 @@ fn cuts() {
     for seed in 0..20 {
         let input = random_course::input(seed, 120);
         let whole = run(&input);
-        for size in [1, 2, 3, 7, 64, 1_000, 1_024, 1_025] {
+        for size in [1, 2, 3, 7, 64, 1_000, 2_048, 2_049] {
             let mut reader = Reader::default();
             let mut output: String = input.chunks(size).map(|part| reader.feed(part)).collect();
             output.push_str(&reader.finish());

@@ -6,7 +6,7 @@ use std::io::Write;
 use std::path::{Path, PathBuf};
 use std::process::{Command, Stdio};
 
-const FOLDERS: [&str; 5] = ["pictures", "sessions", "course", "turns", "classes"];
+const FOLDERS: [&str; 6] = ["pictures", "sessions", "course", "turns", "classes", "marks"];
 
 fn stored() -> PathBuf {
     Path::new(env!("CARGO_MANIFEST_DIR")).join("../vectors")

@@ -1,7 +1,7 @@
 //! Inputs of the line program `course` with the output it must give.
 
 use crate::sessions::busy_moves;
-use crate::Folder;
+use crate::{course_marks, Folder};
 use independent::machine::{Config, GO};
 use independent::random::Generator;
 use independent::worked::{self, Worked};
@@ -133,27 +133,39 @@ fn any_bytes() -> Vec<u8> {
         lines.push(with("turn 2", ""));
         lines.push(with("turns 0", "0"));
         lines.push(with("script 3 1 ", ""));
+        lines.push(with("mark 0", ""));
+        lines.push(with("mark 00 ", "0"));
     }
     lines.push((0..=255).collect());
     lines.push((0..=255).rev().collect());
-    lines.extend([vec![0; 1_024], vec![255; 1_025], b"vi\0ew".to_vec(), b"vi\xc3\xabw".to_vec()]);
+    lines.extend([vec![0; 2_048], vec![255; 2_049], b"vi\0ew".to_vec(), b"vi\xc3\xabw".to_vec()]);
     lines.extend(["view", "chart"].map(|line| line.as_bytes().to_vec()));
     spelling::input(&lines)
 }
 
-/// Lines of about 64 and 1,024 bytes and of 5,000: commands, fillers, both.
+/// Lines of about 64, 1,024 and 2,048 bytes and of 5,000: commands, fillers, both.
 fn long_lines() -> Vec<u8> {
     let mut lines = ["start 1 1 1 1", "script 1 4 0 4 0"].map(String::from).to_vec();
-    let turns = spelling::turns(&[255; 254]);
+    let turns = spelling::turns(&[255; 510]);
     let script = |thread: u8, count: usize| format!("script {thread}{}", " 4 0".repeat(count));
     for last in [" 1", " 19", " 119", " 1 119", " 1 1 1 1 1 1 1 1"] {
         lines.push(format!("{turns}{last}"));
         lines.push("view".to_string());
     }
-    for (thread, count) in [(1, 6), (1, 253), (1, 254), (1, 255), (2, 254), (10, 253), (10, 254)] {
+    // The most turns that a line can have, and as many with a byte too many.
+    for last in [" 1", " 10", " 100"] {
+        lines.push(spelling::turns(&[1; 1_020]) + last);
+    }
+    for (thread, count) in [(1, 6), (1, 509), (1, 510), (1, 511), (2, 510), (10, 509), (10, 510)] {
         lines.push(script(thread, count));
     }
-    for length in [63, 64, 65, 1_023, 1_024, 1_025, 1_026, 2_048, 2_049, 5_000] {
+    let machine = Worked::new(Config::new(1, 1, 1, 1)).picture();
+    for count in [1_020, 1_021, 1_022, 1_023] {
+        lines.push(spelling::mark(&vec![1; count]));
+        lines.push(spelling::mark_of(&machine, &vec![1; count - machine.len()]));
+        lines.push(spelling::mark_of(&vec![1; count - machine.len()], &machine));
+    }
+    for length in [63, 64, 65, 1_024, 1_025, 2_047, 2_048, 2_049, 2_050, 5_000] {
         for command in ["view", "turn 1"] {
             lines.push(format!("{command:<length$}"));
             lines.push(format!("{command:>length$}"));
@@ -162,8 +174,8 @@ fn long_lines() -> Vec<u8> {
         }
         lines.push("show".to_string());
     }
-    // Commands in parts of 1,024 and 1,025 bytes.
-    for part in [1_024, 1_025] {
+    // Commands in parts of some lengths.
+    for part in [1_024, 1_025, 2_048, 2_049] {
         lines.push(format!("{:<part$}", "turn 1").repeat(3));
         lines.push(format!("{:<part$}", "turn 1").repeat(2) + "turn 1");
     }
@@ -231,8 +243,11 @@ fn endings() -> Vec<(&'static str, Vec<u8>)> {
         ("end-turn", begun("turn 2")),
         ("end-turns", begun("turns 1 2 3 1 1")),
         ("end-space", begun("view ")),
-        ("end-1024", begun(&format!("script 1{}", " 4 0".repeat(254)))),
-        ("end-1025", begun(&format!("script 10{}", " 4 0".repeat(254)))),
+        ("end-mark", begun("mark 0203010000")),
+        ("end-mark-pictures", b"mark 01 02".to_vec()),
+        ("end-mark-no-session", b"mark 01".to_vec()),
+        ("end-2048", begun(&format!("script 1{}", " 4 0".repeat(510)))),
+        ("end-2049", begun(&format!("script 10{}", " 4 0".repeat(510)))),
         ("end-long", begun(&"x".repeat(3_000))),
     ]
 }
@@ -262,7 +277,8 @@ fn fixed() -> Vec<(&'static str, Vec<u8>)> {
 
 pub fn write_all(folder: &Folder) -> io::Result<()> {
     let mut all: Vec<(String, Vec<u8>)> = Vec::new();
-    all.extend(fixed().into_iter().chain(endings()).map(|(name, input)| (name.into(), input)));
+    let named = fixed().into_iter().chain(course_marks::all()).chain(endings());
+    all.extend(named.map(|(name, input)| (name.into(), input)));
     for seed in 1..=36 {
         all.push((format!("random-{seed:02}"), random_course::input(seed, 100)));
     }

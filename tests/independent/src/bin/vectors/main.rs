@@ -2,6 +2,8 @@
 
 mod classes;
 mod course;
+mod course_marks;
+mod marks;
 mod pictures;
 mod sessions;
 mod states;
@@ -46,5 +48,6 @@ fn main() -> io::Result<()> {
     sessions::write_all(&Folder::new(root, "sessions")?)?;
     course::write_all(&Folder::new(root, "course")?)?;
     turns::write_all(&Folder::new(root, "turns")?)?;
-    classes::write_all(&Folder::new(root, "classes")?)
+    classes::write_all(&Folder::new(root, "classes")?)?;
+    marks::write_all(&Folder::new(root, "marks")?)
 }

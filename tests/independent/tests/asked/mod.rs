@@ -1,0 +1,48 @@
+//! A session of the line program for people, asked a line at a time.
+
+use independent::course::Reader;
+
+/// A session with its answers, a line at a time.
+pub struct Session {
+    reader: Reader,
+}
+
+impl Session {
+    /// After these lines, each of which is answered by 0.
+    pub fn after(lines: &[&str]) -> Session {
+        let mut session = Session { reader: Reader::default() };
+        for line in lines {
+            assert_eq!(session.ask(line), "0\n", "{line}");
+        }
+        session
+    }
+
+    pub fn ask(&mut self, line: impl AsRef<[u8]>) -> String {
+        assert_eq!(self.reader.feed(line.as_ref()), "");
+        self.reader.feed(b"\n")
+    }
+
+    /// All that the session shows, and what its scripts give next, with the state left as it was.
+    fn all(&mut self) -> Vec<String> {
+        let mut all = ["view", "chart", "show"].map(|line| self.ask(line)).to_vec();
+        let turns = [1, 2, 1, 2, 1, 2, 1, 1, 1, 2, 2, 2];
+        for p in turns {
+            all.push(self.ask(format!("turn {p}")) + &self.ask("show"));
+        }
+        for answer in all.clone().iter().skip(3) {
+            if answer.starts_with("0\n") {
+                assert_eq!(self.ask("back"), "0\n");
+            }
+        }
+        all
+    }
+
+    /// The line gets this answer, and nothing changes.
+    pub fn keeps(&mut self, line: impl AsRef<[u8]>, answer: &str) {
+        let line = line.as_ref();
+        let before = self.all();
+        let shown = String::from_utf8_lossy(line).into_owned();
+        assert_eq!(self.ask(line), answer, "{shown:?}");
+        assert_eq!(self.all(), before, "{shown:?}");
+    }
+}
