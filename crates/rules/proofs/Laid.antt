@@ -6,9 +6,10 @@ use mathlib.Core.Bool.{Bool, true, false, _&&_, _||_, not, and-false}
 use mathlib.Core.List.{List}
 use native.Mathlib.Decide.{decLt}
 use native.Mathlib.Omega.{arith}
+use native.Mathlib.Numerals.{add-one}
 use borrow.Author.Tests.{lt-leb}
 use lib.Dec.{eqb, leb}
-use lib.ListN.{length, getD, set, length-set, List·getD-eq-default}
+use lib.ListN.{length, getD, set, replicate, length-set, List·getD-eq-default}
 use lib.Seq.{getD-set-same, getD-set-other}
 use Rattle.reference.specs.Lists.{choose, in-range}
 use Rattle.reference.specs.Picture.{stands-in}
@@ -18,10 +19,9 @@ use Rattle.state.specs.Record.{zero-thread, thread-in, chain}
 use Rattle.state.specs.Association.{queued-as}
 use Rattle.state.specs.Rules.{every, placed-in, met, chain-ok, chains-in}
 use Rattle.rules.specs.model.Bytes.{thread-in-bytes}
-use Rattle.rules.specs.model.Walk.{write-thread, record-bytes}
+use Rattle.rules.specs.model.Chain.{write-thread, record-bytes}
 use Rattle.reference.proofs.Each.{each-agree}
 use Rattle.rules.proofs.Logic.{never}
-use Rattle.rules.proofs.Steps.{bytes-length}
 
 -- ---- only threads 1 to 32 can be placed
 
@@ -41,6 +41,20 @@ bytes-small bytes k q = go (in-range 1 32 k) refl
     go false e h = never (placed-in zero-thread q) (unplaced q) h
 
 -- ---- the bytes of a record
+
+module _ (threads : List Thread) where
+  pub bytes-none : record-bytes threads 0 ≡ replicate 128 0
+  unfolding record-bytes
+  bytes-none = refl
+
+  pub bytes-more : (n : ℕ) → record-bytes threads (n + 1) ≡ write-thread (record-bytes threads n) (4 * n) (thread-in threads (n + 1))
+  unfolding record-bytes
+  bytes-more n = rw (add-one n)
+
+  pub bytes-length : (n : ℕ) → length (record-bytes threads n) ≡ 128
+  unfolding record-bytes
+  bytes-length zero = refl
+  bytes-length (suc n) = simp length-set (bytes-length n)
 
 kept : (b : List ℕ) (at : ℕ) (x : Thread) (i : ℕ) → i < at → getD (write-thread b at x) i 0 ≡ getD b i 0
 kept b at x i h =

@@ -15,6 +15,10 @@ pub either-right : (a b : Bool) → b ≡ true → a || b ≡ true
 either-right true b e = refl
 either-right false b e = e
 
+pub neither : (a b : Bool) → a || b ≡ false → (a ≡ false) × (b ≡ false)
+neither true b e = absurd (true≢false e)
+neither false b e = (refl, e)
+
 -- of `not a || b`: the second, where a holds
 pub implied : (a b : Bool) → not a || b ≡ true → a ≡ true → b ≡ true
 implied true b e h = e

@@ -1,9 +1,9 @@
--- Lists of threads: who stands in one, and the lists that the walk makes.
+-- Lists of threads: who stands in one, and chains that meet each thread once.
 -- Assumes nothing.
 use Prim.Native.Nat.{ℕ, _+_}
 use mathlib.Core.Path.{_≡_, refl, sym, _∙_}
 use mathlib.Core.Bool.{Bool, true, false, _||_, not}
-use mathlib.Core.List.{List, [], _∷_}
+use mathlib.Core.List.{List, [], _∷_, _++_}
 use mathlib.Core.Logic.{⊎-elim}
 use native.Mathlib.Nat.{zero-add}
 use native.Mathlib.Omega.{arith}
@@ -35,22 +35,22 @@ every-at test (x ∷ l) e k h =
     (every-at test l (both-right (test x) (every test l) e) k)
     (either (eqb k x) (stands-in k l) (sym (stands-cons k x l) ∙ h))
 
--- the members of c, last first, before l
-unfoldable pub push : List ℕ → List ℕ → List ℕ
-push [] l = l
-push (k ∷ c) l = push c (k ∷ l)
-
--- whoever stands in c or in l, and nobody else
-pub push-stands : (j : ℕ) (c l : List ℕ) → stands-in j (push c l) ≡ stands-in j c || stands-in j l
-unfolding push
-push-stands j [] l = rw (stands-none j)
-push-stands j (k ∷ c) l = push-stands j c (k ∷ l) ∙ rw (stands-cons j k l, stands-cons j k c) (swap (stands-in j c) (eqb j k) (stands-in j l))
+pub stands-append : (j : ℕ) (a b : List ℕ) → stands-in j (a ++ b) ≡ stands-in j a || stands-in j b
+stands-append j [] b = rw (stands-none j)
+stands-append j (k ∷ a) b = stands-cons j k (a ++ b) ∙ rw (stands-append j a b, stands-cons j k a) (grouped (eqb j k) (stands-in j a) (stands-in j b))
   where
-    swap : (x y z : Bool) → x || (y || z) ≡ y || x || z
-    swap true true z = refl
-    swap true false z = refl
-    swap false true z = refl
-    swap false false z = refl
+    grouped : (x y z : Bool) → x || (y || z) ≡ (x || y) || z
+    grouped true y z = refl
+    grouped false y z = refl
+
+pub stands-last : (j : ℕ) (l : List ℕ) (k : ℕ) → stands-in j (l ++ (k ∷ [])) ≡ eqb j k || stands-in j l
+stands-last j l k = stands-append j l (k ∷ []) ∙ rw (stands-cons j k [], stands-none j) (swap (stands-in j l) (eqb j k))
+  where
+    swap : (x y : Bool) → x || (y || false) ≡ y || x
+    swap true true = refl
+    swap true false = refl
+    swap false true = refl
+    swap false false = refl
 
 -- the chain c meets none that l has and none twice, and each passes the test
 pub record Clean (test : ℕ → Bool) (l c : List ℕ) : Type 0 where
@@ -68,27 +68,27 @@ module _ (test : ℕ → Bool) (l : List ℕ) where
   unfolding every
   clean-first k c h = (both-left (test k) (every test c) (h .placed), h .apart k (stands-cons k k c ∙ either-left (eqb k k) (stands-in k c) (eq-eqb k k refl)))
 
-  pub clean-rest : (k : ℕ) (c : List ℕ) → Clean test l (k ∷ c) → Clean test (k ∷ l) c
+  pub clean-rest : (k : ℕ) (c : List ℕ) → Clean test l (k ∷ c) → Clean test (l ++ (k ∷ [])) c
   unfolding every no-twice
   clean-rest k c h =
       record {
         placed = both-right (test k) (every test c) (h .placed);
         once = both-right (not (stands-in k c)) (no-twice c) (h .once);
-        apart = λ j s. refuted (stands-in j (k ∷ l)) (λ g. ⊎-elim
+        apart = λ j s. refuted (stands-in j (l ++ (k ∷ []))) (λ g. ⊎-elim
             (λ e. let p : j ≡ k = eqb-true j k e in never (stands-in k c) (not-true (stands-in k c) (both-left (not (stands-in k c)) (no-twice c) (h .once))) (rw p at s))
             (never (stands-in j l) (h .apart j (stands-cons j k c ∙ either-right (eqb j k) (stands-in j c) s)))
-            (either (eqb j k) (stands-in j l) (sym (stands-cons j k l) ∙ g)));
+            (either (eqb j k) (stands-in j l) (sym (stands-last j l k) ∙ g)));
       }
 
-  pub clean-cons : (k : ℕ) (c : List ℕ) → test k ≡ true → stands-in k l ≡ false → Clean test (k ∷ l) c → Clean test l (k ∷ c)
+  pub clean-cons : (k : ℕ) (c : List ℕ) → test k ≡ true → stands-in k l ≡ false → Clean test (l ++ (k ∷ [])) c → Clean test l (k ∷ c)
   unfolding every no-twice
   clean-cons k c p f h =
-      let n : stands-in k c ≡ false = refuted (stands-in k c) (λ s. never (stands-in k (k ∷ l)) (h .apart k s) (stands-cons k k l ∙ either-left (eqb k k) (stands-in k l) (eq-eqb k k refl))) in
+      let n : stands-in k c ≡ false = refuted (stands-in k c) (λ s. never (stands-in k (l ++ (k ∷ []))) (h .apart k s) (stands-last k l k ∙ either-left (eqb k k) (stands-in k l) (eq-eqb k k refl))) in
       record {
         placed = both p (h .placed);
         once = rw n (h .once);
         apart = λ j s. refuted (stands-in j l) (λ g. ⊎-elim
             (λ e. let q : j ≡ k = eqb-true j k e in never (stands-in k l) f (rw q at g))
-            (λ i. never (stands-in j (k ∷ l)) (h .apart j i) (stands-cons j k l ∙ either-right (eqb j k) (stands-in j l) g))
+            (λ i. never (stands-in j (l ++ (k ∷ []))) (h .apart j i) (stands-last j l k ∙ either-right (eqb j k) (stands-in j l) g))
             (either (eqb j k) (stands-in j c) (sym (stands-cons j k c) ∙ s)));
       }

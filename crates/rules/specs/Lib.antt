@@ -1,2 +1,3 @@
--- Models only: the rules themselves are in state/specs/Rules.antt.
+-- The walk of the chain check and its one number; models. The rules themselves are in state/specs/Rules.antt.
+pub mod Walk
 pub mod model

@@ -3,18 +3,20 @@ ghost use mathlib.Core.Path.{_≡_};
 ghost use lib.ListN.{getD};
 ghost use Rattle.state.specs.Record.{thread-in};
 ghost use Rattle.state.specs.Rules.{placed-in, chains-in};
+ghost use Rattle.rules.specs.Walk.{has-bit, walk-to, Represents, RepresentsAlong};
 ghost use Rattle.rules.specs.model.Bytes.{thread-in-bytes};
-ghost use Rattle.rules.specs.model.Walk.{has-bit, with-bit, walk-from, walk-queues, queued, none-missed, record-bytes};
+ghost use Rattle.rules.specs.model.Chain.{with-bit, queued, none-missed, record-bytes};
 use state::Thread;
 use state::chain::first_at;
 use state::layout::Width;
 use state::queues::get;
 use state::queues::queued_in;
 
-// Whether all is well so far, and the threads met so far: bit k for thread k.
+// The threads met so far, bit k for thread k; whether the walk ended at a thread met already, and whether at one not placed in its queue.
 pub(crate) struct Walked {
-    pub ok: bool,
     pub met: u64,
+    pub twice: bool,
+    pub misplaced: bool,
 }
 
 pub(crate) fn has_bit(met: u64, k: u8) -> bool
@@ -59,46 +61,51 @@ pub(crate) fn placed_in(x: Thread, q: u8) -> bool
     (x.status == there.status) & (x.holder == there.holder)
 }
 
-// The chain of queue q, after the threads met before: not ok where it meets one a second time, or one not placed there.
-// It takes 33 steps at most: of 32 threads one is then met a second time.
-pub(crate) fn walk(threads: &[u8], q: u8, first: u8, before: u64) -> Walked
-    ensures { λ r. ⌜ r ≡ walk-from (thread-in-bytes (now (threads .entry))) q 33 first before ⌝ }
+// At most `most` threads of queue q's chain, after the threads met before.
+pub(crate) fn walk(threads: &[u8], q: u8, first: u8, most: u8, before: u64) -> Walked
+    ensures { λ r. ⌜ RepresentsAlong (thread-in-bytes (now (threads .entry))) q most first before r ⌝ }
 {
     let mut met = before;
     let mut at = first;
-    let mut left: u8 = 33;
-    while 0 < left {
-        if at == 0 {
-            return Walked { ok: true, met };
-        }
+    let mut left = most;
+    while (0 < left) & (at != 0) {
         let x = thread_in_bytes(threads, at);
-        let fits = placed_in(x, q) & !has_bit(met, at);
-        if fits {
-            met = with_bit(met, at);
-            at = x.next;
-            left -= 1;
-        } else {
-            return Walked { ok: false, met };
+        let twice = has_bit(met, at);
+        let misplaced = !placed_in(x, q);
+        if twice | misplaced {
+            return Walked {
+                met,
+                twice,
+                misplaced,
+            };
         }
+        met = with_bit(met, at);
+        at = x.next;
+        left -= 1;
     }
-    Walked { ok: true, met }
+    Walked {
+        met,
+        twice: false,
+        misplaced: false,
+    }
 }
 
-// The chains of all 17 queues.
-pub(crate) fn walk_queues(threads: &[u8], firsts: [u8; 17]) -> Walked
-    ensures { λ r. ⌜ r ≡ walk-queues (thread-in-bytes (now (threads .entry))) (λ q. getD firsts q 0) 16 ⌝ }
+// The chains of all queues before `last` in order, then at most `most` threads of that one's.
+// Of a chain 33 threads are looked at: of 32 threads one is then met a second time.
+pub(crate) fn walk_to(threads: &[u8], firsts: [u8; 17], last: u8, most: u8) -> Walked
+    ensures { λ r. ⌜ Represents (walk-to (thread-in-bytes (now (threads .entry))) (λ q. getD firsts q 0) last most) r ⌝ }
 {
-    let ready = walk(threads, 0, first_at(firsts, 0), 0);
-    let mut ok = ready.ok;
-    let mut met = ready.met;
+    let mut met: u64 = 0;
     let mut q: u8 = 0;
-    while q < 16 {
-        q += 1;
-        let w = walk(threads, q, first_at(firsts, q), met);
-        ok = ok & w.ok;
+    while q < last {
+        let w = walk(threads, q, first_at(firsts, q), 33, met);
+        if w.twice | w.misplaced {
+            return w;
+        }
         met = w.met;
+        q += 1;
     }
-    Walked { ok, met }
+    walk(threads, last, first_at(firsts, last), most, met)
 }
 
 // The thread is placed in one of the queues.
@@ -125,8 +132,8 @@ pub(crate) fn none_missed(threads: &[u8], met: u64, t: u8) -> bool
 pub fn chains_ok(threads: &[u8], firsts: [u8; 17], t: u8) -> bool
     ensures { λ r. ⌜ r ≡ chains-in (thread-in-bytes (now (threads .entry))) (λ q. getD firsts q 0) t ⌝ }
 {
-    let w = walk_queues(threads, firsts);
-    w.ok & none_missed(threads, w.met, t)
+    let w = walk_to(threads, firsts, 16, 33);
+    !w.twice & !w.misplaced & none_missed(threads, w.met, t)
 }
 
 // A record's threads 1 to 32 as a picture has them.

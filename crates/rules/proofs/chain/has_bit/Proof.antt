@@ -2,7 +2,7 @@
 -- Assumes nothing.
 use mathlib.Core.Path.{refl, sym}
 use borrow.Author.Needs.{needs}
-use Rattle.rules.specs.model.Walk.{has-bit}
+use Rattle.rules.specs.Walk.{has-bit}
 use Rattle.rules.proofs.Bits.{has-past}
 use Rattle.rules.proofs.chain.has_bit.Statement.{statement}
 use Rattle.rules.proofs.chain.has_bit.Tie as tie

@@ -5,7 +5,7 @@ use mathlib.Core.Path.{_≡_, sym}
 use native.Mathlib.Omega.{arith}
 use borrow.Author.Needs.{needs}
 use Rattle.rules.specs.model.Bytes.{thread-in-bytes}
-use Rattle.rules.specs.model.Walk.{none-missed}
+use Rattle.rules.specs.model.Chain.{none-missed}
 use Rattle.reference.proofs.Each.{each-none, each-next, each-end}
 use Rattle.rules.proofs.chain.none_missed.Statement.{statement}
 use Rattle.rules.proofs.chain.none_missed.Tie as tie

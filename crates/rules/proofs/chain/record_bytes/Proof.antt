@@ -4,8 +4,8 @@ use Prim.Native.Nat.{_≤_, _-_}
 use mathlib.Core.Path.{_≡_, sym}
 use native.Mathlib.Omega.{arith}
 use borrow.Author.Needs.{needs}
-use Rattle.rules.specs.model.Walk.{record-bytes}
-use Rattle.rules.proofs.Steps.{bytes-none, bytes-more}
+use Rattle.rules.specs.model.Chain.{record-bytes}
+use Rattle.rules.proofs.Laid.{bytes-none, bytes-more}
 use Rattle.rules.proofs.chain.record_bytes.Statement.{statement}
 use Rattle.rules.proofs.chain.record_bytes.Tie as tie
 

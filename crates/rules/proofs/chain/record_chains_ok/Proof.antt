@@ -4,7 +4,7 @@ use mathlib.Core.Path.{_≡_, _∙_}
 use borrow.Author.Needs.{needs}
 use lib.ListN.{length, getD}
 use Rattle.state.specs.Record.{thread-in}
-use Rattle.rules.specs.model.Walk.{record-bytes}
+use Rattle.rules.specs.model.Chain.{record-bytes}
 use Rattle.rules.specs.model.Bytes.{thread-in-bytes}
 use Rattle.rules.proofs.Laid.{record-threads, chains-agree}
 use Rattle.rules.proofs.chain.record_chains_ok.Statement.{statement}

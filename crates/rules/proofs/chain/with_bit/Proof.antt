@@ -2,7 +2,7 @@
 -- Assumes nothing.
 use borrow.Author.Tests.{lt-ltb, le-ltb}
 use borrow.Author.Needs.{needs}
-use Rattle.rules.specs.model.Walk.{with-bit}
+use Rattle.rules.specs.model.Chain.{with-bit}
 use Rattle.rules.proofs.Bits.{shl-one}
 use Rattle.rules.proofs.chain.with_bit.Statement.{statement}
 use Rattle.rules.proofs.chain.with_bit.Tie as tie
