@@ -19,6 +19,7 @@
 //! - `lines`: what line programs share: lines, answers, numbers, bytes.
 //! - `program`: the line program.
 //! - `course`: the line program for people; `view` and `chart` are its tables.
+//! - `chains`: pictures for the rule of chains, right and wrong.
 //! - `random`: random sessions from a seed.
 //! - `random_scripts`: random scripts and lists of turns.
 //! - `random_marks`: random pictures to mark.
@@ -27,6 +28,7 @@
 //! - `slips`: lines that are no command of it.
 //! - `worked`: the worked sessions of document 01.
 
+pub mod chains;
 pub mod chart;
 pub mod course;
 pub mod lines;

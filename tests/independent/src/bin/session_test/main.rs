@@ -1,6 +1,7 @@
 //! Writes the script of the program `session_test` and the answers it must give, as the files
 //! `stdin` and `stdout` of the folder given as argument.
 
+mod chains;
 mod commands;
 mod script;
 mod scripted;

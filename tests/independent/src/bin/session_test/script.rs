@@ -1,5 +1,6 @@
 //! The script: the sessions of document 01, and each refusal at its boundaries.
 
+use crate::chains;
 use crate::commands::{
     first, mutex, own_first, probe, processor, thread, Fields, APPLIED, BORN, FIELDS, STEALING,
 };
@@ -667,6 +668,7 @@ pub fn whole() -> String {
     damaging_steps(s);
     other_journals(s);
     random_sessions(s);
+    chains::add(s);
     longest(s);
     scripted::add(s);
     script.0

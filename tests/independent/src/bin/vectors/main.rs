@@ -1,5 +1,6 @@
 //! Writes the test vectors into the folder given as argument.
 
+mod chains;
 mod classes;
 mod course;
 mod course_marks;
@@ -45,6 +46,7 @@ fn main() -> io::Result<()> {
     };
     let root = Path::new(&root);
     pictures::write_all(&Folder::new(root, "pictures")?)?;
+    chains::write_all(&Folder::new(root, "pictures")?)?;
     sessions::write_all(&Folder::new(root, "sessions")?)?;
     course::write_all(&Folder::new(root, "course")?)?;
     turns::write_all(&Folder::new(root, "turns")?)?;
