@@ -88,6 +88,17 @@ first-move-only-breaks-3 d =
     let n : _≡_ {A = ℕ} 3 0 = ap (position-in 1) (d .sessions alone long refl (locks ∷ ask (move (go 1)) ∷ []) (tt, (tt, tt)) .state) in
     omega arith
 
+-- ---- A move is counted, and nothing else changes.
+
+only-counts : Implementation
+only-counts = with-moved (λ r a right. counted r)
+
+only-counts-breaks-2 : ¬ (Demand2 only-counts)
+unfolding only-counts computing
+only-counts-breaks-2 d =
+    let n : _≡_ {A = ℕ} 0 3 = ap (position-in 1) (d .moves (after-start one []) long lock-move .session refl) in
+    omega arith
+
 -- ---- A queue counts as empty, whoever is in it, at one of the lines that look at it.
 
 empty-at : Line → Line → Implementation
@@ -130,6 +141,17 @@ moves-uncounted-breaks-2 : ¬ (Demand2 moves-uncounted)
 unfolding moves-uncounted computing
 moves-uncounted-breaks-2 d =
     let n : _≡_ {A = ℕ} 0 1 = ap (λ (r : Session). r .state .applied) (d .moves (after-start one []) long lock-move .session refl) in
+    omega arith
+
+-- ---- One move is applied, after every move.
+
+one-applied : Implementation
+one-applied = with-moved (λ r a right. record { state = with-applied 1 (right .state); initial = right .initial })
+
+one-applied-breaks-2 : ¬ (Demand2 one-applied)
+unfolding one-applied computing
+one-applied-breaks-2 d =
+    let n : _≡_ {A = ℕ} 1 2 = ap (λ (r : Session). r .state .applied) (d .moves (after-start one (lock-move ∷ [])) long (go 1) .session refl) in
     omega arith
 
 -- ---- A processor's own sequence number is never raised.
