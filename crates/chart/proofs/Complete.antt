@@ -8,15 +8,12 @@ use mathlib.Core.List.{List, [], _∷_, _++_, append-nil}
 use mathlib.Core.Logic.{_≢_}
 use mathlib.Core.Path.{_≡_, refl, sym, ap, _∙_, subst}
 use lib.Dec.{eqb}
-use lib.ListN.{length}
 use borrow.Author.Tests.{le-leb, lt-leb, eq-eqb, ne-eqb, eqb-true}
 use Rattle.command.specs.Printing.{text}
 use Rattle.state.specs.declared.Thread.{Thread}
-use Rattle.state.specs.declared.State.{State as Record}
 use Rattle.state.specs.declared.Processor.{Processor}
-use Rattle.state.specs.declared.Session.{Session}
 use Rattle.state.specs.Record.{zero-thread, thread-of}
-use Rattle.state.specs.Association.{encode, queue-at, queued-as, thread-record, mutex-record, session-record}
+use Rattle.state.specs.Association.{encode, queue-at, queued-as, thread-record, mutex-record}
 use Rattle.state.specs.Rules.{placed-in}
 use Rattle.state.specs.Allowed.{Allowed}
 use Rattle.state.proofs.Branch.{if-some}
@@ -32,12 +29,8 @@ use Rattle.association.proofs.Queues.{occurs-append, occurs-here}
 use Rattle.association.proofs.Spots.{Spot, queued, current, transit, new, terminated, AtSpot, entry-for, spot-entry, spot-of}
 use Rattle.association.proofs.Shown.{Fits, allowed-fits, read-processor, read-mutex, read-thread, queue-thread, queue-row}
 use Rattle.shown.proofs.Decode.{decode-encode}
-use Rattle.shown.proofs.Unique.{session-held}
 use Rattle.shown.proofs.Tests.{first-member, later-member}
-use Rattle.agreement.proofs.Moved.{not-refused}
 use Rattle.agreement.proofs.Fields.{next-allowed}
-use Rattle.session.specs.Contract.{shown, lent-refusal, move-refusal, moved}
-use Rattle.session.proofs.Holding.{or-passed}
 use Rattle.chart.specs.Chart.{queue-name}
 use Rattle.chart.specs.Chart.{queued as shown-queued}
 use Rattle.chart.specs.Complete.{alone, queue-label, QueuesNamed, Complete, RowsComplete}
@@ -177,14 +170,6 @@ unfolding next
 stays s a r = r
 
 pub rows-complete : RowsComplete
-unfolding moved move-refusal
-rows-complete r v j a n =
-    let first = or-passed (lent-refusal r (length j)) _ n in
-    let h = session-held r (v .0) (v .1) in
-    let free = not-refused (shown r) a (first .1) in
-    let after : Allowed (next (shown r) a) = next-allowed (shown r) a (free .0) (free .1) (h .allowed) in
-    let p = legal (shown r) a (free .0) .processor in
-    let t = told (shown r) (next (shown r) a) a (h .allowed) after p (stays (shown r) a p) (mutex-kept (shown r) a) (queue-moves (shown r) a (rw (h .allowed .processors) p)) in
-    let made : session-record (next (shown r) a) (r .initial) ≡ moved r j a .session = rw (eq-eqb (move-refusal r j a) 0 n) in
-    subst (λ (x : Record). Complete x a (moved r j a .session .state)) (ap (λ (x : Session). x .state) (h .same))
-    (subst (λ (x : Session). Complete (encode (shown r)) a (x .state)) made t)
+rows-complete s h a free kept =
+    let p = legal s a free .processor in
+    told s (next s a) a h (next-allowed s a free kept h) p (stays s a p) (mutex-kept s a) (queue-moves s a (rw (h .processors) p))

@@ -17,15 +17,15 @@ use Rattle.state.specs.declared.Token.{Token}
 use Rattle.state.specs.declared.State.{State}
 use Rattle.state.specs.declared.Session.{Session}
 use Rattle.state.specs.Record.{processor-of, mutex-of}
-use Rattle.state.specs.Rules.{state-ok, session-ok}
-use Rattle.state.specs.Association.{decode}
+use Rattle.state.specs.Association.{encode, decode}
 use Rattle.reference.specs.Lists.{choose, if-zero, in-range}
-use Rattle.reference.specs.Step.{Move}
-use Rattle.reference.proofs.Tests.{both-left, range-true}
+use Rattle.reference.specs.State as reference
+use Rattle.reference.specs.Step.{Move, next}
+use Rattle.reference.proofs.Tests.{range-true}
 use Rattle.shown.proofs.Kept.{Fields, state-kept, fields-say}
-use Rattle.session.specs.Contract.{lent-refusal, tested, moved, journal-after}
-use Rattle.session.proofs.Answers.{lent-passed}
-use Rattle.session.proofs.Holding.{or-passed}
+use Rattle.session.specs.Contract.{test-refusal}
+use Rattle.session.proofs.Answers.{lent-passed, test-passed}
+use Rattle.session.proofs.Undone.{state-right}
 use Rattle.session.proofs.Replayed.{length-moves}
 use Rattle.chart.specs.Chart.{deed, made, noted, owner-change, token-change, queue-name, queue-change, with-owner, with-token, with-joined, with-departed, row, column-head, heading, moves-chart, chart-text}
 
@@ -144,11 +144,10 @@ module _ (count : ℕ) (few : count ≤ 8) where
 
   -- ---- the chart
 
-  moves-length : (r : Session) (j : List ℕ) (ms : List Move) → length (moves-chart count r j ms) ≤ 170 * length ms
+  moves-length : (s : reference.State) (ms : List Move) → length (moves-chart count s ms) ≤ 170 * length ms
   unfolding moves-chart
-  moves-length r j [] = omega arith
-  moves-length r j (a ∷ ms) =
-      rw length-append (omega (arith, row-length (r .state) a (moved r j a .session .state), moves-length (moved r j a .session) (journal-after r j a) ms))
+  moves-length s [] = omega arith
+  moves-length s (a ∷ ms) = rw length-append (omega (arith, row-length (encode s) a (encode (next s a)), moves-length (next s a) ms))
 
 columns-length : (k n : ℕ) → length (rows column-head k n) ≤ 11 * n
 unfolding rows
@@ -159,19 +158,18 @@ heading-length : (count : ℕ) → length (heading count) ≤ 14 + 11 * count
 unfolding heading text
 heading-length count = simp length-append (omega (arith, padded-length 6 6 (text "move") (omega arith) (omega arith), columns-length 1 count))
 
-whole-length : (count : ℕ) (r : Session) (j : List ℕ) (ms : List Move) → count ≤ 8 → length ms ≤ 4000 → length (heading count ++ moves-chart count r j ms ++ line-feed) ≤ 680103
-whole-length count r j ms h k = simp length-append (omega (arith, heading-length count, moves-length count h r j ms))
+whole-length : (count : ℕ) (s : reference.State) (ms : List Move) → count ≤ 8 → length ms ≤ 4000 → length (heading count ++ moves-chart count s ms ++ line-feed) ≤ 680103
+whole-length count s ms h k = simp length-append (omega (arith, heading-length count, moves-length count h s ms))
 
 -- what the journal's test has found of the numbers
-session-fields : (r : Session) (j : List ℕ) → tested r j .refusal ≡ 0 → Fields (r .state)
-unfolding tested session-ok
+session-fields : (r : Session) (j : List ℕ) → test-refusal r j ≡ 0 → Fields (r .state)
 session-fields r j e =
-    let k = both-left (state-ok (r .state)) (in-range 1 (r .state .t) (r .initial)) (lent-passed r (length j) (or-passed (lent-refusal r (length j)) _ e .0) .1) in
+    let k = state-right r (lent-passed r (length j) (test-passed r j e .0) .1) in
     fields-say (r .state) (state-kept (r .state) k .fields)
 
 pub chart-length : (r : Session) (j : List ℕ) → length (chart-text r j) ≤ 680103
 unfolding chart-text decode
 chart-length r j =
-    zero-or (tested r j .refusal) _ _ 680103
-    (λ e. let f = session-fields r j e in whole-length _ _ _ _ (f .p-range .1) (omega (arith, length-moves (r .state .applied) j, f .applied)))
-    (omega (arith, ended (decimal (tested r j .refusal)) 3 (decimal-length (tested r j .refusal))))
+    zero-or (test-refusal r j) _ _ 680103
+    (λ e. let f = session-fields r j e in whole-length _ _ _ (f .p-range .1) (omega (arith, length-moves (r .state .applied) j, f .applied)))
+    (omega (arith, ended (decimal (test-refusal r j)) 3 (decimal-length (test-refusal r j))))

@@ -5,7 +5,6 @@ use Prim.Native.Nat.{ℕ, _+_, _-_, _*_}
 use mathlib.Core.Bool.{Bool, not, _&&_, _||_, cond}
 use mathlib.Core.List.{List, [], _∷_, _++_}
 use lib.Dec.{eqb}
-use lib.ListN.{replicate}
 use Rattle.command.specs.Command.{field}
 use Rattle.command.specs.Printing.{text, decimal, wide, spaces, padded, line-feed}
 use Rattle.view.specs.Words.{line-name, action-word, or-dash, token-text, rows}
@@ -15,9 +14,12 @@ use Rattle.state.specs.declared.Mutex.{Mutex}
 use Rattle.state.specs.declared.State.{State}
 use Rattle.state.specs.declared.Session.{Session}
 use Rattle.state.specs.Record.{thread-of, processor-of, mutex-of}
+use Rattle.state.specs.Association.{encode}
 use Rattle.reference.specs.Lists.{choose, if-zero, in-range}
-use Rattle.reference.specs.Step.{Move}
-use Rattle.session.specs.Contract.{config-of, started, standing, tested, moved, journal-after}
+use Rattle.reference.specs.State as reference
+use Rattle.reference.specs.Start.{start}
+use Rattle.reference.specs.Step.{Move, next}
+use Rattle.session.specs.Contract.{config-of, standing, test-refusal}
 
 -- ---- a row: the move, the state before it, r, and after it, s
 
@@ -87,11 +89,12 @@ module _ (r : State) (a : Move) (s : State) where
     unfoldable pub row : List ℕ
     row = with-departed ++ line-feed
 
--- ---- the chart: the moves are made again, from the start, by a session with a journal of its own
+-- ---- the chart
 
-unfoldable pub moves-chart : ℕ → Session → List ℕ → List Move → List ℕ
-moves-chart count r j [] = []
-moves-chart count r j (a ∷ ms) = row (r .state) a (moved r j a .session .state) count ++ moves-chart count (moved r j a .session) (journal-after r j a) ms
+-- the moves, made one after the other from a state of the reference machine
+unfoldable pub moves-chart : ℕ → reference.State → List Move → List ℕ
+moves-chart count s [] = []
+moves-chart count s (a ∷ ms) = row (encode s) a (encode (next s a)) count ++ moves-chart count (next s a) ms
 
 -- the number of a processor above its column
 abbrev pub column-head : ℕ → List ℕ
@@ -103,6 +106,6 @@ heading count = padded 6 (text "move") ++ rows column-head 1 count ++ text "chan
 -- ended by an empty line; refused by 10, 15, 16 as the journal's test
 unfoldable pub chart-text : Session → List ℕ → List ℕ
 chart-text r j =
-    if-zero (tested r j .refusal)
-    (heading (r .state .p) ++ moves-chart (r .state .p) (started (config-of r) .session) (replicate 12000 0) (standing r j) ++ line-feed)
-    (decimal (tested r j .refusal) ++ line-feed)
+    if-zero (test-refusal r j)
+    (heading (r .state .p) ++ moves-chart (r .state .p) (start (config-of r)) (standing r j) ++ line-feed)
+    (decimal (test-refusal r j) ++ line-feed)

@@ -1,7 +1,7 @@
 -- What a row tells of owners, tokens and queues is true, and is all that its move did to them.
 -- Assumes nothing.
 use Prim.Native.Nat.{ℕ, _-_}
-use mathlib.Core.Bool.{Bool, true, cond}
+use mathlib.Core.Bool.{Bool, true, false, cond}
 use mathlib.Core.List.{List, [], _∷_, _++_}
 use mathlib.Core.Path.{_≡_}
 use lib.Dec.{eqb, leb}
@@ -9,13 +9,15 @@ use Rattle.command.specs.Command.{field}
 use Rattle.command.specs.Printing.{text}
 use Rattle.state.specs.declared.Thread.{Thread}
 use Rattle.state.specs.declared.State.{State}
-use Rattle.state.specs.declared.Session.{Session}
 use Rattle.state.specs.Record.{thread-of, mutex-of}
-use Rattle.state.specs.Association.{decode, queue-at}
-use Rattle.state.specs.Rules.{ValidSession, placed-in}
+use Rattle.state.specs.Association.{encode, decode, queue-at}
+use Rattle.state.specs.Rules.{placed-in}
+use Rattle.state.specs.Allowed.{Allowed}
 use Rattle.reference.specs.Lists.{choose}
-use Rattle.reference.specs.Step.{Move}
-use Rattle.session.specs.Contract.{moved}
+use Rattle.reference.specs.State as reference
+use Rattle.reference.specs.Step.{Move, next}
+use Rattle.reference.specs.Cause.{cause}
+use Rattle.reference.specs.Break.{step-breaks}
 use Rattle.chart.specs.Chart.{queued, queue-name, mutex, carried, taken}
 
 -- thread k, if it is there
@@ -43,7 +45,7 @@ module _ (r : State) (a : Move) (s : State) where
     pub departed : queued (thread-of r (taken r a s)) ≡ true → (q : ℕ) × (placed-in (thread-of r (taken r a s)) q ≡ true)
     pub joined : queued (thread-of s (carried r a s)) ≡ true → (q : ℕ) × (placed-in (thread-of s (carried r a s)) q ≡ true)
 
--- of any valid record and every move that is accepted
+-- of every state that the rules allow, so of each that a session reaches, and every move that is accepted there
 abbrev pub RowsComplete : Type 0
 RowsComplete =
-    (r : Session) → ValidSession r → (j : List ℕ) (a : Move) → moved r j a .refusal ≡ 0 → Complete (r .state) a (moved r j a .session .state)
+    (s : reference.State) → Allowed s → (a : Move) → cause s a ≡ 0 → step-breaks s a ≡ false → Complete (encode s) a (encode (next s a))

@@ -2,19 +2,20 @@
 mod row;
 
 ghost use mathlib.Core.Path.{_≡_};
-ghost use lib.ListN.{replicate};
 ghost use Rattle.command.specs.Printing.{buffer-of, add};
 ghost use Rattle.view.specs.Words.{rows};
 ghost use Rattle.reference.specs.Session.{moves};
-ghost use Rattle.chart.specs.Chart.{column-head, heading, moves-chart, chart-text};
+ghost use Rattle.chart.specs.Chart.{column-head, heading, chart-text};
+ghost use Rattle.chart.specs.model.Made.{made-chart};
 use crate::row::put_row;
 use command::printing::pad;
 use command::printing::put;
 use command::printing::put_number;
-use session::make_move;
 use session::test_journal;
 use state::Session;
+use state::State;
 use state::queues::get;
+use step::moves::moved;
 
 // The numbers of the processors above their columns.
 fn put_columns(out: &mut [u8], at: usize, count: u8) -> usize
@@ -37,23 +38,21 @@ fn put_heading(out: &mut [u8], at: usize, count: u8) -> usize
     put(out, n, b"changes\n")
 }
 
-// A row for each of the journal's first n moves, made again by a session with a journal of its own.
-fn put_moves(out: &mut [u8], at: usize, count: u8, first: Session, journal: &[u8], n: u16) -> usize
-    ensures { λ r. ⌜ buffer-of (now (out .exit)) r ≡ add (buffer-of (now (out .entry)) at) (moves-chart count first (replicate 12000 0) (moves n (now (journal .entry)))) ⌝ }
+// A row for each of the journal's first n moves, made again from a state.
+fn put_moves(out: &mut [u8], at: usize, count: u8, first: State, journal: &[u8], n: u16) -> usize
+    ensures { λ r. ⌜ buffer-of (now (out .exit)) r ≡ add (buffer-of (now (out .entry)) at) (made-chart count first (moves n (now (journal .entry)))) ⌝ }
 {
-    let mut own = [0u8; 12000];
-    let mut session = first;
+    let mut state = first;
     let mut end = at;
     for i in 0..n {
         let from = 3 * (i as usize);
         let p = get(journal, from);
         let a = get(journal, from + 1);
         let o = get(journal, from + 2);
-        let state = session.state;
-        let answer = make_move(session, &mut own, p, a, o);
-        let next = answer.session;
-        end = put_row(out, end, count, state, p, a, o, next.state);
-        session = next;
+        let made = moved(state, p, a, o);
+        let next = made.state;
+        end = put_row(out, end, count, state, p, a, o, next);
+        state = next;
     }
     end
 }
@@ -69,8 +68,7 @@ pub fn chart(out: &mut [u8], at: usize, session: Session, journal: &[u8]) -> usi
         return put(out, n, b"\n");
     }
     let state = session.state;
-    let answer = session::start(state.p, state.t, state.m, session.initial, state.stealing);
-    let first = answer.session;
+    let first = State::start(state.p, state.t, state.m, session.initial, state.stealing);
     let n = put_heading(out, at, state.p);
     let n = put_moves(out, n, state.p, first, journal, state.applied);
     put(out, n, b"\n")

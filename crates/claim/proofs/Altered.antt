@@ -21,11 +21,11 @@ use Rattle.reference.specs.Script.{script-ok, scripts-ok, scripts-cause, progre
 use Rattle.reference.specs.Session.{Opening, table, Request, move, turn, class, back, own, other, Call, Reply, bytes, moves, all-but-last, replays, left, replies}
 use Rattle.picture.specs.Picture.{written}
 use Rattle.picture.specs.Turns.{Answer as TurnsAhead, before, turns-ahead, ahead, answer}
-use Rattle.session.specs.Contract.{shown, config-of, answered, or-later, started, lent-refusal, move-refusal, moved, written-at, journal-after, standing, matches, undo-refusal, undone}
+use Rattle.session.specs.Contract.{shown, config-of, answered, or-later, started, lent-refusal, standing, matches, test-refusal, move-refusal, moved, written-at, journal-after, undo-refusal, undone}
 use Rattle.turns.specs.Contract.{turn-made, turn-refusal, turned, turn-journal, class-refusal, classed, class-journal, answers-after, pictures-after}
 use Rattle.claim.specs.Implementation.{Outcome, Pictured, Implementation, outcome, calls, contract}
 use Rattle.claim.specs.Demand3.{Event, asked, held-after, responses, IsSession}
-use Rattle.claim.proofs.Sample.{ask, long}
+use Rattle.claim.proofs.Sample.{ask, long, after-moves}
 
 -- ---- one function altered
 
@@ -90,7 +90,7 @@ only-jumps l r a =
 -- a turn that makes the move `a`, where `n` is what is tried before its causes
 abbrev pub turn-by : Session → List ℕ → ℕ → Move → Outcome
 turn-by r j n a =
-    let k : ℕ = or-later (lent-refusal r (length j)) (or-later n (move-refusal r j a)) in
+    let k : ℕ = or-later (test-refusal r j) (or-later n (move-refusal r j a)) in
     outcome (answered k (moved r j a .session) r) (choose (eqb k 0) (journal-after r j a) j) []
 
 -- its scripts' cause
@@ -159,5 +159,5 @@ byte i k e = ap (byte-of i k) e
 
 -- what the refutations compute with: to unfold this is to unfold all that its line names
 unfoldable pub computing : Unit {0}
-unfolding before turns-ahead ahead answer long unrelated responses asked held-after left replies IsSession config-cause started start tabulate those encode decode chain run next act line line-of cause action-of lent-refusal matches replays all-but-last move-refusal moved journal-after undo-refusal undone step-breaks written-at bytes session-ok state-ok broken-rule fields-ok processor-ok mutex-ok thread-ok chains-ok chain-ok holders-ok zero-past each every no-twice find sum is thread-entry behind accepted moves same-state same-list script-ok scripts-ok progress turn-move turn-refusal turned turn-journal class-moves class-answers class-pictures class-refusal classed class-journal answers-after pictures-after written picture concat
+unfolding before turns-ahead ahead answer long unrelated responses asked held-after left replies IsSession config-cause started start tabulate those encode decode chain run next act line line-of cause action-of lent-refusal matches test-refusal after-moves replays all-but-last move-refusal moved journal-after undo-refusal undone step-breaks written-at bytes session-ok state-ok broken-rule fields-ok processor-ok mutex-ok thread-ok chains-ok chain-ok holders-ok zero-past each every no-twice find sum is thread-entry behind accepted moves same-state same-list script-ok scripts-ok progress turn-move turn-refusal turned turn-journal class-moves class-answers class-pictures class-refusal classed class-journal answers-after pictures-after written picture concat
 computing = tt

@@ -1,9 +1,9 @@
 -- Demand 2 holds of the contracts.
 -- Assumes nothing.
-use Prim.Native.Nat.{ℕ, _≤_}
+use Prim.Native.Nat.{ℕ, zero, suc, _≤_}
 use mathlib.Core.Bool.{Bool, true, false, not}
 use mathlib.Core.List.{List}
-use mathlib.Core.Path.{_≡_, refl, subst}
+use mathlib.Core.Path.{_≡_, refl, sym, _∙_, subst}
 use native.Mathlib.Omega.{arith}
 use lib.Dec.{ltb}
 use lib.ListN.{length, take}
@@ -14,7 +14,7 @@ use Rattle.state.specs.Association.{encode, decode}
 use Rattle.state.specs.Rules.{state-ok, session-ok}
 use Rattle.state.specs.Allowed.{Allowed}
 use Rattle.state.specs.Record.{Sized}
-use Rattle.reference.specs.Refusal.{too-short, bad-record, refuse}
+use Rattle.reference.specs.Refusal.{too-short, bad-record, bad-journal, refuse}
 use Rattle.reference.specs.Lists.{with-front}
 use Rattle.reference.specs.State.{State}
 use Rattle.reference.specs.Step.{Move, next}
@@ -31,9 +31,10 @@ use Rattle.picture.specs.Picture.{picture-length, write-refusal, written, read}
 use Rattle.picture.proofs.Formula.{meaning-ahead}
 use Rattle.picture.proofs.RoundTrip.{picture-reads, fields-sized, read-keeps, read-pictures, written-reads, read-writes}
 use Rattle.picture.proofs.Written.{picture-size}
-use Rattle.session.specs.Contract.{shown, or-later, lent-refusal, move-refusal, moved, journal-after}
-use Rattle.session.proofs.Answers.{lent-passed}
-use Rattle.session.proofs.Holding.{or-passed}
+use Rattle.session.specs.Contract.{shown, config-of, or-later, lent-refusal, standing, matches, test-refusal, move-refusal, moved, journal-after}
+use Rattle.session.proofs.Answers.{or-passed, lent-passed, test-passed}
+use Rattle.session.proofs.Reached.{never-broken}
+use Rattle.session.proofs.Holding.{test-agrees}
 use Rattle.claim.specs.Implementation.{contract}
 use Rattle.claim.specs.Demand2.{MoveIs, Pictures, Demand2}
 use Rattle.claim.proofs.Refusals.{refusals}
@@ -41,22 +42,40 @@ use Rattle.claim.proofs.Refusals.{refusals}
 -- ---- a move
 
 module _ (r : Session) (j : List ℕ) (a : Move) where
-  number-is : moved r j a .refusal ≡
-      refuse (short (length j)) too-short (refuse (not (session-ok r)) bad-record (or-later (cause (shown r) a) (refuse (step-breaks (shown r) a) bad-record 0)))
-  unfolding moved move-refusal lent-refusal
-  number-is = by (short (length j)) (session-ok r) (or-later (cause (shown r) a) (refuse (step-breaks (shown r) a) bad-record 0))
+  -- past the test the state is reached, and no step from it breaks a rule
+  never-there : test-refusal r j ≡ 0 → or-later (cause (shown r) a) (refuse (step-breaks (shown r) a) bad-record 0) ≡ cause (shown r) a
+  never-there e =
+      let t = test-agrees r j e in
+      subst (λ (s : State). or-later (cause s a) (refuse (step-breaks s a) bad-record 0) ≡ cause s a) (sym (t .state))
+      (never-broken (config-of r) (standing r j) (t .config) (t .legal) a)
+
+  behind-test : (n : ℕ) → or-later (test-refusal r j) n ≡ refuse (short (length j)) too-short (refuse (not (session-ok r)) bad-record (refuse (not (matches r j)) bad-journal n))
+  unfolding test-refusal lent-refusal
+  behind-test n = by (short (length j)) (session-ok r) (matches r j)
     where
-      by : (b ok : Bool) (n : ℕ) → or-later (refuse b too-short (refuse (not ok) bad-record 0)) n ≡ refuse b too-short (refuse (not ok) bad-record n)
-      by true ok n = refl
-      by false true n = refl
-      by false false n = refl
+      by : (b ok m : Bool) →
+          or-later (or-later (refuse b too-short (refuse (not ok) bad-record 0)) (refuse (not m) bad-journal 0)) n ≡
+          refuse b too-short (refuse (not ok) bad-record (refuse (not m) bad-journal n))
+      by true ok m = refl
+      by false false m = refl
+      by false true true = refl
+      by false true false = refl
+
+  number-is : moved r j a .refusal ≡
+      refuse (short (length j)) too-short (refuse (not (session-ok r)) bad-record (refuse (not (matches r j)) bad-journal (cause (shown r) a)))
+  unfolding moved move-refusal
+  number-is = by (test-refusal r j) never-there ∙ behind-test (cause (shown r) a)
+    where
+      by : (n : ℕ) {x y : ℕ} → (n ≡ 0 → x ≡ y) → or-later n x ≡ or-later n y
+      by zero h = h refl
+      by (suc n) h = refl
 
   module _ (z : Sized (r .state)) (e : move-refusal r j a ≡ 0) where
     allowed-next : Allowed (next (shown r) a) × In (next (shown r) a .T) (r .initial)
     unfolding move-refusal next decode
     allowed-next =
-        let first = or-passed (lent-refusal r (length j)) _ e in
-        let h = session-held r z (lent-passed r (length j) (first .0) .1) in
+        let first = or-passed (test-refusal r j) _ e in
+        let h = session-held r z (lent-passed r (length j) (test-passed r j (first .0) .0) .1) in
         let free = not-refused (shown r) a (first .1) in
         (next-allowed (shown r) a (free .0) (free .1) (h .allowed), h .initial)
 

@@ -19,7 +19,8 @@ use Rattle.reference.specs.Session.{Opening, table, scripted, opened, Request, 
 use Rattle.reference.proofs.Laws.{safe}
 use Rattle.session.specs.Contract.{or-later, started}
 use Rattle.session.proofs.Shown.{picture-long, fits, pictured}
-use Rattle.session.proofs.Holding.{Holds, Leaves, or-passed, config-is, standing-is, agree}
+use Rattle.session.proofs.Answers.{or-passed}
+use Rattle.session.proofs.Holding.{Holds, Leaves, config-is, standing-is}
 use Rattle.turns.specs.Contract as turns
 use Rattle.claim.specs.Implementation.{contract, calls}
 use Rattle.claim.specs.Demand3.{Event, asks, writes, passes, asked, Held, lent-to, left-as, step, held-after, responses, BelongsLent, IsSession, opening, most, Demand3}
@@ -50,7 +51,7 @@ module _ (c : Config) (ok : config-cause c ≡ 0) (first : List ℕ) (k : ℕ) w
       (λ i.
       Leaves (config-is c ok l r j (h .holds) i) (accept (config-is c ok l r j (h .holds) i) (standing-is c ok l r j (h .holds) i) q own) j
       (calls r j q .session) (calls r j q .journal))
-      (leaves r j (agree c ok l r j (h .holds)) q e) in
+      (leaves r j q e) in
       record { holds = w .0; rest = w .1 .rest k top ∙ h .rest; long = w .1 .size ∙ h .long }
 
   -- any call that is lent it

@@ -1,26 +1,28 @@
 -- What an accepted call leaves: a record and a journal of the moves that the reference session then holds.
 -- Assumes nothing.
 use Prim.Native.Nat.{ℕ, _*_, _≤_}
+use mathlib.Core.Bool.{not}
 use mathlib.Core.List.{List, [], _∷_, _++_}
 use mathlib.Core.Path.{_≡_, ap, _∙_, subst}
 use native.Mathlib.Omega.{arith}
 use lib.ListN.{length, take, drop}
 use lib.Seq.{take-at}
-use borrow.Author.Tests.{eq-eqb}
+use borrow.Author.Tests.{eq-eqb, not-false}
 use Rattle.state.specs.declared.Session.{Session}
 use Rattle.state.specs.Association.{session-record}
 use Rattle.reference.specs.Lists.{with-front}
 use Rattle.reference.specs.Start.{Config, start}
 use Rattle.reference.specs.Step.{Move}
 use Rattle.reference.specs.Script.{scripts-cause, progress, turn-move, class-moves}
-use Rattle.reference.specs.Session.{own, Request, move, turn, class, back, bytes, turn-with, accept, state-of}
+use Rattle.reference.specs.Session.{own, Request, move, turn, class, back, bytes, turn-with, accept, state-of, lacks-room}
+use Rattle.reference.proofs.Tests.{passed}
 use Rattle.reference.proofs.Fronts.{with-front-length, with-front-rest}
 use Rattle.reference.proofs.Moves.{accepted-length}
 use Rattle.reference.proofs.Script.{accepted-class}
-use Rattle.session.specs.Contract.{config-of, lent-refusal, move-refusal, moved, journal-after, standing, undone}
-use Rattle.session.proofs.Answers.{lent-passed}
+use Rattle.session.specs.Contract.{config-of, lent-refusal, standing, matches, test-refusal, move-refusal, moved, journal-after, undone}
+use Rattle.session.proofs.Answers.{or-passed}
 use Rattle.session.proofs.Standing.{length-bytes}
-use Rattle.session.proofs.Holding.{Agree, Leaves, or-passed, move-leaves, undo-leaves}
+use Rattle.session.proofs.Holding.{Agree, agrees, move-agrees, undo-agrees, Leaves, move-leaves, undo-leaves}
 use Rattle.turns.specs.Contract.{turn-made, turn-refusal, turned, turn-journal, class-refusal, classed, class-journal}
 use Rattle.claim.specs.Implementation.{calls}
 
@@ -29,7 +31,7 @@ use Rattle.claim.specs.Implementation.{calls}
 module _ (r : Session) (j x : List ℕ) (p : ℕ) (e : turn-refusal r j x p ≡ 0) where
   pub turn-passed : move-refusal r j (turn-made r j x p) ≡ 0
   unfolding turn-refusal
-  turn-passed = or-passed (scripts-cause (r .state .t) x) _ (or-passed (lent-refusal r (length j)) _ e .1) .1
+  turn-passed = or-passed (scripts-cause (r .state .t) x) _ (or-passed (test-refusal r j) _ e .1) .1
 
   pub turn-session : turned r j x p .session ≡ moved r j (turn-made r j x p) .session
   unfolding turned
@@ -39,7 +41,22 @@ module _ (r : Session) (j x : List ℕ) (p : ℕ) (e : turn-refusal r j x p ≡ 
   unfolding turn-journal
   turn-writes = rw (eq-eqb (turn-refusal r j x p) 0 e)
 
--- ---- a record and a journal that agree
+-- ---- a record and a journal agree where anything is accepted: each call tests that
+
+module _ (r : Session) (j : List ℕ) where
+  class-agrees : (x ps a b : List ℕ) → class-refusal r j x ps a b ≡ 0 → Agree r j
+  unfolding class-refusal
+  class-agrees x ps a b e =
+      let first = or-passed (lent-refusal r (length j)) _ e in
+      let room = passed (lacks-room (config-of r) (length ps) a b) _ _ (first .1) in
+      agrees r j (first .0) (not-false _ (passed (not (matches r j)) _ _ (room .1) .0))
+
+  pub calls-agree : (q : Request) → calls r j q .refusal ≡ 0 → Agree r j
+  unfolding moved turned classed undone
+  calls-agree (move a) e = move-agrees r j a e
+  calls-agree (turn x p) e = move-agrees r j (turn-made r j x p) (turn-passed r j x p e)
+  calls-agree (class x ps a b) e = class-agrees x ps a b e
+  calls-agree back e = undo-agrees r j e
 
 module _ (r : Session) (j : List ℕ) (t : Agree r j) where
   abbrev c : Config
@@ -61,10 +78,9 @@ module _ (r : Session) (j : List ℕ) (t : Agree r j) where
   class-leaves x ps a b e =
       let made : List Move = class-moves c x ms ps in
       let ok = accepted-class c x ps ms (t .legal) in
-      let size : 12000 ≤ length j = lent-passed r (length j) (or-passed (lent-refusal r (length j)) _ e .0) .0 in
       let few : length made ≤ 4000 = omega (arith, accepted-length made (start c) (omega arith) ok) in
       let long = length-bytes made in
-      let fits : length (bytes made) ≤ length j = omega arith in
+      let fits : length (bytes made) ≤ length j = omega (arith, t .size) in
       let zero-is = eq-eqb (class-refusal r j x ps a b) 0 e in
       let wrote : class-journal r j x ps a b ≡ with-front j (bytes made) = rw zero-is in
       let gave : classed r j x ps a b .session ≡ session-record (state-of c made) (c .B) = rw zero-is in (
@@ -79,10 +95,14 @@ module _ (r : Session) (j : List ℕ) (t : Agree r j) where
         },
       )
 
-  -- anything that is asked and accepted
-  pub leaves : (q : Request) → calls r j q .refusal ≡ 0 → Leaves c (accept c ms q own) j (calls r j q .session) (calls r j q .journal)
+  asked-leaves : (q : Request) → calls r j q .refusal ≡ 0 → Leaves c (accept c ms q own) j (calls r j q .session) (calls r j q .journal)
   unfolding moved turned classed undone
-  leaves (move a) e = move-leaves r j t a e
-  leaves (turn x p) e = turn-leaves x p e
-  leaves (class x ps a b) e = class-leaves x ps a b e
-  leaves back e = undo-leaves r j t e
+  asked-leaves (move a) e = move-leaves r j t a e
+  asked-leaves (turn x p) e = turn-leaves x p e
+  asked-leaves (class x ps a b) e = class-leaves x ps a b e
+  asked-leaves back e = undo-leaves r j t e
+
+-- any record and journal, anything that is asked and accepted
+pub leaves : (r : Session) (j : List ℕ) (q : Request) → calls r j q .refusal ≡ 0 →
+    Leaves (config-of r) (accept (config-of r) (standing r j) q own) j (calls r j q .session) (calls r j q .journal)
+leaves r j q e = asked-leaves r j (calls-agree r j q e) q e

@@ -17,7 +17,7 @@ use Rattle.reference.specs.Session.{Lent, own, other, Request, move, turn, clas
 use Rattle.session.specs.Contract.{lent-refusal, or-later, move-refusal, moved, standing, matches, undone}
 use Rattle.session.proofs.Standing.{moves-front}
 use Rattle.session.proofs.Holding.{Holds, shown-is, config-is, applied-held}
-use Rattle.session.proofs.Numbers.{or-refuse, lent-number, replayed-is, own-replays, move-number, undo-number}
+use Rattle.session.proofs.Numbers.{or-refuse, lent-number, replayed-is, own-replays, test-number, move-number, undo-number}
 use Rattle.turns.specs.Contract.{turn-made, turn-refusal, turned, class-refusal, classed, answers-after, pictures-after}
 use Rattle.claim.specs.Implementation.{calls}
 use Rattle.claim.specs.Demand3.{lent-to, reply}
@@ -31,10 +31,11 @@ two-choices : (b : Bool) (u v s t : List ℕ) → choose b u s ∷ choose b v t 
 two-choices true u v s t = refl
 two-choices false u v s t = refl
 
--- a cause that was tried before is not tried again
-again : (b d : Bool) (k m n : ℕ) → refuse b k (refuse d m (refuse b k n)) ≡ refuse b k (refuse d m n)
-again true d k m n = refl
-again false d k m n = refl
+-- 10 and 16 that were tried before are not tried again
+again : (b d u : Bool) (n : ℕ) → refuse b 10 (refuse d 16 (refuse u 19 (refuse b 10 (refuse d 16 n)))) ≡ refuse b 10 (refuse d 16 (refuse u 19 n))
+again true d u n = refl
+again false true u n = refl
+again false false u n = refl
 
 module _ (c : Config) (right : config-cause c ≡ 0) (ms : List Move) (r : Session) (j : List ℕ) (h : Holds c ms r j) (size : ℕ) (long : length j ≡ size) (t : Lent) where
   abbrev lent : List ℕ
@@ -70,12 +71,14 @@ module _ (c : Config) (right : config-cause c ≡ 0) (ms : List Move) (r : Sessi
   turn-number : (x : List ℕ) (p : ℕ) → turn-refusal r lent x p ≡ answer-to c size ms (turn x p) t
   unfolding turn-refusal
   turn-number x p =
-      behind _ _
-      (ap (λ (n : ℕ). or-later n (move-refusal r lent (turn-made r lent x p))) (scripts-is x) ∙
-      or-refuse (not (scripts-ok (c .T) x)) 18 (move-refusal r lent (turn-made r lent x p)) ∙
-      ap (refuse (not (scripts-ok (c .T) x)) 19) (move-number c right ms r j h lent (turn-made r lent x p) ∙
-      (λ i. refuse (short-is t i) 10 (cause (state-of c ms) (made-is x p i))))) ∙
-      again (short (lent-length size t)) (not (scripts-ok (c .T) x)) 10 19 (cause (state-of c ms) (turn-with c ms t x p))
+      let a : Move = turn-made r lent x p in
+      let u : Bool = not (scripts-ok (c .T) x) in
+      let behind-test : or-later (scripts-cause (r .state .t) x) (move-refusal r lent a) ≡
+      refuse u 19 (refuse (short (lent-length size t)) 10 (refuse (mismatched c ms t) 16 (cause (state-of c ms) (turn-with c ms t x p)))) =
+      ap (λ (n : ℕ). or-later n (move-refusal r lent a)) (scripts-is x) ∙ or-refuse u 18 (move-refusal r lent a) ∙
+      ap (refuse u 19) (move-number c right ms r j h lent a ∙ (λ i. refuse (short-is t i) 10 (refuse (mismatched-is t i) 16 (cause (state-of c ms) (made-is x p i))))) in
+      test-number c right ms r j h lent _ ∙ (λ i. refuse (short-is t i) 10 (refuse (mismatched-is t i) 16 (behind-test i))) ∙
+      again (short (lent-length size t)) (mismatched c ms t) u (cause (state-of c ms) (turn-with c ms t x p))
 
   class-number : (x ps a b : List ℕ) → class-refusal r lent x ps a b ≡ answer-to c size ms (class x ps a b) t
   unfolding class-refusal
@@ -85,7 +88,7 @@ module _ (c : Config) (right : config-cause c ≡ 0) (ms : List Move) (r : Sessi
   -- the number, whatever is asked and lent
   pub number : (q : Request) → calls r lent q .refusal ≡ answer-to c size ms q t
   unfolding moved turned classed undone
-  number (move a) = move-number c right ms r j h lent a ∙ ap (λ (b : Bool). refuse b 10 (cause (state-of c ms) a)) (short-is t)
+  number (move a) = move-number c right ms r j h lent a ∙ (λ i. refuse (short-is t i) 10 (refuse (mismatched-is t i) 16 (cause (state-of c ms) a)))
   number (turn x p) = turn-number x p
   number (class x ps a b) = class-number x ps a b
   number back =

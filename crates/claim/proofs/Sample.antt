@@ -81,8 +81,8 @@ sample =
     ask back ∷ ask (turn scripts 1) ∷ ask back ∷
     -- 2: a refused move
     ask (move (move-of 9 0 0)) ∷
-    -- 16, 5, 16: a journal of other moves; 10, 10: one that is short
-    ask-with mismatched back ∷ ask-with mismatched (move (move-of 1 0 0)) ∷ ask-with mismatched (three scripts 5 200) ∷
+    -- 16, 16, 16, 16: a journal of other moves, also where scripts and processor are wrong too; 10, 10: one that is short
+    ask-with mismatched back ∷ ask-with mismatched (move (move-of 1 3 1)) ∷ ask-with mismatched (turn [] 9) ∷ ask-with mismatched (three scripts 5 200) ∷
     ask-with [] (move (move-of 1 3 1)) ∷ ask-with [] (three [] 0 0) ∷
     -- 6, 19, 10: another journal that replays
     ask-with replaying (turn scripts 2) ∷ ask-with replaying (three [] 3 144) ∷ ask-with replaying (three scripts 3 143) ∷
@@ -108,7 +108,7 @@ answers-buffer i l = getD (getD l i (record { refusal = 0; buffers = [] }) .buff
 
 abbrev pub numbers : List ℕ
 numbers =
-    0 ∷ 0 ∷ 6 ∷ 6 ∷ 0 ∷ 0 ∷ 0 ∷ 0 ∷ 2 ∷ 16 ∷ 5 ∷ 16 ∷ 10 ∷ 10 ∷ 6 ∷ 19 ∷ 10 ∷ 19 ∷ 19 ∷ 19 ∷ 10 ∷ 10 ∷ 0 ∷ 0 ∷ 0 ∷ 0 ∷ 0 ∷ 9 ∷ []
+    0 ∷ 0 ∷ 6 ∷ 6 ∷ 0 ∷ 0 ∷ 0 ∷ 0 ∷ 2 ∷ 16 ∷ 16 ∷ 16 ∷ 16 ∷ 10 ∷ 10 ∷ 6 ∷ 19 ∷ 10 ∷ 19 ∷ 19 ∷ 19 ∷ 10 ∷ 10 ∷ 0 ∷ 0 ∷ 0 ∷ 0 ∷ 0 ∷ 9 ∷ []
 
 -- what the sample computes with: to unfold this is to unfold all that its line names
 computing : Unit {0}
@@ -119,8 +119,8 @@ sample-answers : numbers-of (replies two 12000 [] (asked sample)) ≡ numbers
 unfolding computing
 sample-answers = refl
 
-sample-buffers : (answers-buffer 22 (replies two 12000 [] (asked sample)) ≡ 0 ∷ 6 ∷ 0 ∷ 99 ∷ 99 ∷ []) ×
-    (answers-buffer 20 (replies two 12000 [] (asked sample)) ≡ 99 ∷ 99 ∷ [])
+sample-buffers : (answers-buffer 23 (replies two 12000 [] (asked sample)) ≡ 0 ∷ 6 ∷ 0 ∷ 99 ∷ 99 ∷ []) ×
+    (answers-buffer 21 (replies two 12000 [] (asked sample)) ≡ 99 ∷ 99 ∷ [])
 unfolding computing
 sample-buffers = (refl, refl)
 
@@ -138,7 +138,7 @@ refused n e = omega arith
 sample-fits : Fits two 12000 [] sample
 unfolding computing
 sample-fits =
-    (tt, (tt, (tt, (tt, (tt, (tt, (tt, (tt, (tt, (refused 15, (refused 4, (refused 15, (refused 9, (refused 9, (refused 5, (refused 18, (refused 9, (refused 14, (tt, (tt, (tt, (tt, (tt, (tt, (tt, (tt, (tt, (tt, (tt, tt)))))))))))))))))))))))))))))
+    (tt, (tt, (tt, (tt, (tt, (tt, (tt, (tt, (tt, (refused 15, (refused 15, (refused 15, (refused 15, (refused 9, (refused 9, (refused 5, (refused 18, (refused 9, (refused 14, (tt, (tt, (tt, (tt, (tt, (tt, (tt, (tt, (tt, (tt, (tt, tt))))))))))))))))))))))))))))))
 
 -- it is a session of the contracts, and its calls are answered so
 pub sample-belongs : IsSession contract (opening contract begins long) sample
@@ -154,8 +154,8 @@ pub sample-responses : numbers-of (responses contract (opening contract begins l
 sample-responses = ap numbers-of responses-are ∙ sample-answers
 
 -- the accepted class has put its turns' answers in front of the buffer's later bytes; one that is refused as a whole leaves the buffer
-pub sample-filled : answers-buffer 22 (responses contract (opening contract begins long) sample) ≡ 0 ∷ 6 ∷ 0 ∷ 99 ∷ 99 ∷ []
-sample-filled = ap (answers-buffer 22) responses-are ∙ sample-buffers .0
+pub sample-filled : answers-buffer 23 (responses contract (opening contract begins long) sample) ≡ 0 ∷ 6 ∷ 0 ∷ 99 ∷ 99 ∷ []
+sample-filled = ap (answers-buffer 23) responses-are ∙ sample-buffers .0
 
-pub sample-kept : answers-buffer 20 (responses contract (opening contract begins long) sample) ≡ 99 ∷ 99 ∷ []
-sample-kept = ap (answers-buffer 20) responses-are ∙ sample-buffers .1
+pub sample-kept : answers-buffer 21 (responses contract (opening contract begins long) sample) ≡ 99 ∷ 99 ∷ []
+sample-kept = ap (answers-buffer 21) responses-are ∙ sample-buffers .1

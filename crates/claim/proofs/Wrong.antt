@@ -23,7 +23,7 @@ use Rattle.session.specs.Contract.{shown, config-of, answered, or-later, lent-r
 use Rattle.claim.specs.Implementation.{Outcome, Pictured, Implementation, outcome, begins, calls, contract}
 use Rattle.claim.specs.Demand2.{Demand2}
 use Rattle.claim.specs.Demand3.{Demand3}
-use Rattle.claim.proofs.Sample.{ask, two, long}
+use Rattle.claim.proofs.Sample.{ask, two, long, after-moves}
 use Rattle.claim.proofs.Altered.{with-write, with-ahead, with-move, with-undo, with-moved, only-jumps, one, alone, after-start, lock-move, locks, with-own, with-unrelated, number, computing}
 
 -- where processor p of a record stands, and the record with one more standing move
@@ -79,7 +79,7 @@ first-move-only = with-moved (λ r a right. choose (eqb (r .state .applied) 0) r
 first-move-only-breaks-2 : ¬ (Demand2 first-move-only)
 unfolding first-move-only computing
 first-move-only-breaks-2 d =
-    let n : _≡_ {A = ℕ} 3 0 = ap (position-in 1) (d .moves (after-start one (lock-move ∷ [])) long (go 1) .session refl) in
+    let n : _≡_ {A = ℕ} 3 0 = ap (position-in 1) (d .moves (after-start one (lock-move ∷ [])) (after-moves (lock-move ∷ [])) (go 1) .session refl) in
     omega arith
 
 first-move-only-breaks-3 : ¬ (Demand3 first-move-only)
@@ -110,7 +110,7 @@ empty-at-CI2-breaks-2 : ¬ (Demand2 (empty-at CI2 CI2))
 unfolding empty-at computing
 empty-at-CI2-breaks-2 d =
     let c : Config = record { P = 1; T = 2; M = 1; B = 2; stealing = 0 } in
-    let n : _≡_ {A = ℕ} 1 2 = ap (position-in 1) (d .moves (after-start c (move-of 1 5 0 ∷ [])) long (go 1) .session refl) in
+    let n : _≡_ {A = ℕ} 1 2 = ap (position-in 1) (d .moves (after-start c (move-of 1 5 0 ∷ [])) (after-moves (move-of 1 5 0 ∷ [])) (go 1) .session refl) in
     omega arith
 
 -- thread 2 joins the queue before processor 1 looks into it
@@ -118,7 +118,7 @@ empty-at-H2-breaks-2 : ¬ (Demand2 (empty-at H2 H5))
 unfolding empty-at computing
 empty-at-H2-breaks-2 d =
     let ms : List Move = lock-move ∷ move-of 2 1 1 ∷ go 1 ∷ go 2 ∷ go 2 ∷ go 2 ∷ move-of 1 3 1 ∷ go 1 ∷ [] in
-    let n : _≡_ {A = ℕ} 18 17 = ap (position-in 1) (d .moves (after-start two ms) long (go 1) .session refl) in
+    let n : _≡_ {A = ℕ} 18 17 = ap (position-in 1) (d .moves (after-start two ms) (after-moves ms) (go 1) .session refl) in
     omega arith
 
 -- both lock, thread 1 unlocks, and processor 1 finds the queue empty: H5 is next
@@ -129,7 +129,8 @@ before-H5 = lock-move ∷ move-of 2 1 1 ∷ go 1 ∷ go 2 ∷ move-of 1 3 1 ∷ 
 empty-at-L7-breaks-2 : ¬ (Demand2 (empty-at L7 CI2))
 unfolding empty-at computing
 empty-at-L7-breaks-2 d =
-    let n : _≡_ {A = ℕ} 1 8 = ap (position-in 2) (d .moves (after-start two (before-H5 ++ go 1 ∷ go 2 ∷ go 2 ∷ go 2 ∷ [])) long (go 2) .session refl) in
+    let ms : List Move = before-H5 ++ go 1 ∷ go 2 ∷ go 2 ∷ go 2 ∷ [] in
+    let n : _≡_ {A = ℕ} 1 8 = ap (position-in 2) (d .moves (after-start two ms) (after-moves ms) (go 2) .session refl) in
     omega arith
 
 -- ---- An accepted move does not count itself.
@@ -151,7 +152,7 @@ one-applied = with-moved (λ r a right. record { state = with-applied 1 (right .
 one-applied-breaks-2 : ¬ (Demand2 one-applied)
 unfolding one-applied computing
 one-applied-breaks-2 d =
-    let n : _≡_ {A = ℕ} 1 2 = ap (λ (r : Session). r .state .applied) (d .moves (after-start one (lock-move ∷ [])) long (go 1) .session refl) in
+    let n : _≡_ {A = ℕ} 1 2 = ap (λ (r : Session). r .state .applied) (d .moves (after-start one (lock-move ∷ [])) (after-moves (lock-move ∷ [])) (go 1) .session refl) in
     omega arith
 
 -- ---- A processor's own sequence number is never raised.
@@ -179,7 +180,7 @@ sequence-unchanged =
 sequence-unchanged-breaks-2 : ¬ (Demand2 sequence-unchanged)
 unfolding sequence-unchanged computing
 sequence-unchanged-breaks-2 d =
-    let e = d .moves (after-start two before-H5) long (go 1) .session refl in
+    let e = d .moves (after-start two before-H5) (after-moves before-H5) (go 1) .session refl in
     let n : _≡_ {A = ℕ} 0 1 = ap (λ (r : Session). getD (r .state .processors) 1 zero-processor .sequence) e in
     omega arith
 

@@ -19,7 +19,7 @@ use Rattle.session.specs.Contract.{shown}
 use Rattle.claim.specs.Implementation.{Outcome, Implementation, begins}
 use Rattle.claim.specs.Demand2.{Demand2}
 use Rattle.claim.specs.Demand3.{Demand3}
-use Rattle.claim.proofs.Sample.{ask, long}
+use Rattle.claim.proofs.Sample.{ask, long, after-moves}
 use Rattle.claim.proofs.Altered.{with-begin, with-moved, only-jumps, after-start, computing}
 
 -- two processors with a ready queue each
@@ -56,7 +56,7 @@ position-of-1 r = getD (r .state .processors) 1 zero-processor .position
 yield-sees-all-queues-breaks-2 : ¬ (Demand2 yield-sees-all-queues)
 unfolding yield-sees-all-queues computing
 yield-sees-all-queues-breaks-2 d =
-    let n : _≡_ {A = ℕ} 22 0 = ap position-of-1 (d .moves (after-start queue-each created) long (move-of 1 0 0) .session refl) in
+    let n : _≡_ {A = ℕ} 22 0 = ap position-of-1 (d .moves (after-start queue-each created) (after-moves created) (move-of 1 0 0) .session refl) in
     omega arith
 
 yield-sees-all-queues-breaks-3 : ¬ (Demand3 yield-sees-all-queues)

@@ -13,18 +13,17 @@ use Rattle.state.specs.Record.{Sized, zero-state, zero-session}
 use Rattle.state.specs.Association.{encode, decode, session-record}
 use Rattle.state.specs.Rules.{state-ok, session-ok, Valid, ValidSession}
 use Rattle.state.specs.Allowed.{Allowed}
-use Rattle.reference.specs.Refusal.{too-short, bad-record, refuse}
+use Rattle.reference.specs.Refusal.{too-short, bad-record, bad-journal, refuse}
 use Rattle.reference.specs.Lists.{with-front}
 use Rattle.reference.specs.State.{State}
 use Rattle.reference.specs.Step.{Move, next}
 use Rattle.reference.specs.Cause.{cause}
-use Rattle.reference.specs.Break.{step-breaks}
 use Rattle.reference.specs.Picture.{picture}
 use Rattle.reference.specs.Session.{Opening, Request, move, buffers-of, short}
 use Rattle.shown.specs.Unique.{OneToOne}
 use Rattle.picture.specs.Picture.{Bytes}
 use Rattle.picture.specs.Turns.{answer}
-use Rattle.session.specs.Contract.{shown, or-later, written-at}
+use Rattle.session.specs.Contract.{shown, matches, written-at}
 use Rattle.claim.specs.Implementation.{Implementation, Outcome, Refused}
 
 -- ---- a move, of any record, with any journal
@@ -35,9 +34,10 @@ module _ (impl : Implementation) (r : Session) (j : List ℕ) (a : Move) where
   made = impl .call r j (move a)
 
   pub record MoveIs : Type 0 where
-    -- it is refused by 10, by 15, by the first cause in the state that the record shows, by 15 where the step would break a rule; else accepted
+    -- it is refused by 10, by 15, by 16, by the first cause in the state that the record shows; else accepted. The 15 of a step is never there: past 16 that
+    -- state is one that a session reaches.
     pub number : made .refusal ≡
-        refuse (short (length j)) too-short (refuse (not (session-ok r)) bad-record (or-later (cause (shown r) a) (refuse (step-breaks (shown r) a) bad-record 0)))
+        refuse (short (length j)) too-short (refuse (not (session-ok r)) bad-record (refuse (not (matches r j)) bad-journal (cause (shown r) a)))
     -- accepted, it gives the record of the next state with the same B, and puts its three bytes behind the journal's standing moves
     pub session : made .refusal ≡ 0 → made .session ≡ session-record (next (shown r) a) (r .initial)
     pub journal : made .refusal ≡ 0 → made .journal ≡ written-at (shown r .applied) a j

@@ -7,17 +7,15 @@ use mathlib.Core.Path.{_≡_, refl, sym, ap, _∙_}
 use native.Mathlib.Omega.{arith}
 use lib.Dec.{eqb}
 use lib.ListN.{length}
-use borrow.Author.Tests.{eqb-true, eq-eqb, ne-eqb}
-use Rattle.reference.specs.Lists.{choose}
+use borrow.Author.Tests.{eqb-true}
 use Rattle.reference.specs.State.{State}
 use Rattle.reference.specs.Start.{Config, start}
 use Rattle.reference.specs.Step.{Move, next, run}
-use Rattle.reference.specs.Cause.{cause, accepted}
+use Rattle.reference.specs.Cause.{accepted}
 use Rattle.reference.specs.Safe.{one-if}
 use Rattle.reference.specs.Script.{call-of, progress, turn-cause, turn-after, turned, class-moves, class-answers, class-pictures}
 use Rattle.reference.specs.Picture.{picture}
 use Rattle.reference.proofs.Sums.{choose-by}
-use Rattle.reference.proofs.Legal.{accepted-cons}
 use Rattle.reference.proofs.Moves.{accepted-snoc}
 
 -- ---- progress
@@ -30,29 +28,13 @@ one-most false = omega arith
 pub progress-most : (ms : List Move) (s : State) (k : ℕ) → progress s ms k ≤ length ms
 unfolding progress
 progress-most [] s k = omega arith
-progress-most (a ∷ rest) s k = by (eqb (cause s a) 0) (progress (next s a) rest k) (progress-most rest (next s a) k)
-  where
-    by : (b : Bool) (n : ℕ) → n ≤ length rest → choose b (one-if (call-of s a k) + n) 0 ≤ suc (length rest)
-    by true n h = omega (arith, one-most (call-of s a k))
-    by false n h = omega arith
+progress-most (a ∷ rest) s k = omega (arith, one-most (call-of s a k), progress-most rest (next s a) k)
 
--- one accepted move more
-pub progress-snoc : (ms : List Move) (s : State) (a : Move) (k : ℕ) → accepted s ms ≡ true → cause (run s ms) a ≡ 0 →
-    progress s (ms ++ a ∷ []) k ≡ progress s ms k + one-if (call-of (run s ms) a k)
+-- one move more
+pub progress-snoc : (ms : List Move) (s : State) (a : Move) (k : ℕ) → progress s (ms ++ a ∷ []) k ≡ progress s ms k + one-if (call-of (run s ms) a k)
 unfolding progress run
-progress-snoc [] s a k h e = rw (eq-eqb (cause s a) 0 e) (omega arith)
-progress-snoc (b ∷ rest) s a k h e =
-    let t = accepted-cons s b rest h in
-    rw (eq-eqb (cause s b) 0 (t .0)) (omega (arith, progress-snoc rest (next s b) a k (t .1) e))
-
--- nothing behind a refused move counts
-pub progress-stop : (ms : List Move) (s : State) (a : Move) (rest : List Move) (k : ℕ) → accepted s ms ≡ true → (cause (run s ms) a ≡ 0 → ⊥) →
-    progress s (ms ++ a ∷ rest) k ≡ progress s ms k
-unfolding progress run
-progress-stop [] s a rest k h e = rw (ne-eqb (cause s a) 0 e)
-progress-stop (b ∷ ms) s a rest k h e =
-    let t = accepted-cons s b ms h in
-    rw (eq-eqb (cause s b) 0 (t .0)) (ap (λ (n : ℕ). one-if (call-of s b k) + n) (progress-stop ms (next s b) a rest k (t .1) e))
+progress-snoc [] s a k = omega arith
+progress-snoc (b ∷ rest) s a k = omega (arith, progress-snoc rest (next s b) a k)
 
 -- ---- a class
 

@@ -49,10 +49,10 @@ scripts-cause t x = refuse (not (scripts-ok t x)) bad-script 0
 abbrev pub call-of : State → Move → ℕ → Bool
 call-of s a k = not (is-go (action-of (a .action))) && eqb (processor-at s (a .processor) .current) k
 
--- the calls of thread k among the moves made from s; where a move is refused the list ends
+-- the calls of thread k among the moves made from s
 unfoldable pub progress : State → List Move → ℕ → ℕ
 progress s [] k = 0
-progress s (a ∷ rest) k = choose (eqb (cause s a) 0) (one-if (call-of s a k) + progress (next s a) rest k) 0
+progress s (a ∷ rest) k = one-if (call-of s a k) + progress (next s a) rest k
 
 -- ---- a turn
 

@@ -139,11 +139,15 @@ fills c ms back j = []
 module _ (c : Config) (size : ℕ) where
   -- the first cause in the request's order, else 0; no session meets 15
   abbrev pub answer-to : List Move → Request → Lent → ℕ
-  answer-to ms (move a) j = refuse (short (lent-length size j)) too-short (cause (state-of c ms) a)
+  answer-to ms (move a) j =
+      refuse (short (lent-length size j)) too-short
+      (refuse (mismatched c ms j) bad-journal
+      (cause (state-of c ms) a))
   answer-to ms (turn x p) j =
       refuse (short (lent-length size j)) too-short
+      (refuse (mismatched c ms j) bad-journal
       (refuse (not (scripts-ok (c .T) x)) bad-script
-      (cause (state-of c ms) (turn-with c ms j x p)))
+      (cause (state-of c ms) (turn-with c ms j x p))))
   answer-to ms (class x ps answers pictures) j =
       refuse (short (lent-length size j)) too-short
       (refuse (lacks-room c (length ps) answers pictures) too-short

@@ -7,8 +7,10 @@ use mathlib.Core.Path.{_≡_, refl, sym, ap, _∙_}
 use native.Mathlib.Omega.{arith}
 use lib.Dec.{eqb, leb}
 use lib.ListN.{length, take}
-use borrow.Author.Tests.{lt-ltb, le-ltb, ltb-false, ne-eqb, not-false}
+use borrow.Author.Tests.{lt-ltb, le-ltb, ltb-false, eqb-true, ne-eqb, not-false}
+use Rattle.state.specs.declared.State.{State as Record}
 use Rattle.state.specs.declared.Session.{Session}
+use Rattle.session.specs.declared.Answer.{Answer}
 use Rattle.state.specs.Record.{zero-session, Sized}
 use Rattle.state.specs.Association.{encode, decode}
 use Rattle.state.specs.Rules.{session-ok}
@@ -25,7 +27,9 @@ use Rattle.shown.proofs.Unique.{session-held}
 use Rattle.step.specs.declared.Moved.{Moved}
 use Rattle.step.specs.model.Moves.{moved-of}
 use Rattle.agreement.proofs.Moved.{refusal, not-refused, moved-valid}
-use Rattle.session.specs.Contract.{shown, started, lent-refusal, move-refusal, moved, written-at, journal-after, front}
+use Rattle.session.specs.Contract.{shown, started, or-later, lent-refusal, matches, test-refusal, move-refusal, moved, written-at, journal-after, front}
+use Rattle.session.specs.model.Replay.{stored}
+use Rattle.session.proofs.Standing.{sets-written}
 
 -- ---- start
 
@@ -42,6 +46,11 @@ started-taken c e =
 pub started-refused : (c : Config) → ranges-ok c ≡ false → record { refusal = 1; session = zero-session } ≡ started c
 unfolding started config-cause
 started-refused c e = rw e
+
+-- no number is given: neither cause is there
+pub or-passed : (x y : ℕ) → or-later x y ≡ 0 → (x ≡ 0) × (y ≡ 0)
+or-passed zero y e = (refl, e)
+or-passed (suc x) y e = absurd (omega arith)
 
 -- ---- the first causes of a call that is lent a journal
 
@@ -64,28 +73,33 @@ module _ (r : Session) (n : ℕ) where
       let h = passed (short n) _ _ e in
       (ltb-false n 12000 (h .0), not-false _ (passed (not (session-ok r)) _ _ (h .1) .0))
 
+-- the journal's test is passed
+pub test-passed : (r : Session) (j : List ℕ) → test-refusal r j ≡ 0 → (lent-refusal r (length j) ≡ 0) × (matches r j ≡ true)
+unfolding test-refusal
+test-passed r j e =
+    let h = or-passed (lent-refusal r (length j)) _ e in
+    (h .0, not-false _ (passed (not (matches r j)) _ _ (h .1) .0))
+
 -- ---- move
 
--- a refused move: the number, the record handed in, and the journal as it was
-pub record Kept (r : Session) (j : List ℕ) (a : Move) (n : ℕ) : Type 0 where
-  pub answer : record { refusal = n; session = r } ≡ moved r j a
-  pub journal : j ≡ journal-after r j a
-
 module _ (r : Session) (j : List ℕ) (a : Move) where
-  move-kept : (n : ℕ) → n ≡ move-refusal r j a → (n ≡ 0 → ⊥) → Kept r j a n
-  unfolding moved journal-after
-  move-kept n e h = record { answer = rw (← e, ne-eqb n 0 h); journal = rw (← e, ne-eqb n 0 h) }
-
-  -- 10 or 15
-  pub lent-kept : (n : ℕ) → n ≡ lent-refusal r (length j) → (n ≡ 0 → ⊥) → Kept r j a n
+  first-number : (n : ℕ) → n ≡ test-refusal r j → (n ≡ 0 → ⊥) → n ≡ move-refusal r j a
   unfolding move-refusal
-  lent-kept zero e h = absurd (h refl)
-  lent-kept (suc n) e h = move-kept (suc n) (rw (← e)) h
+  first-number zero e h = absurd (h refl)
+  first-number (suc n) e h = rw (← e)
 
-  module _ (size : Sized (r .state)) (free : lent-refusal r (length j) ≡ 0) (made : Moved)
+  -- 10, 15 or 16: the record handed in, and the journal as it was
+  pub move-untested : (n : ℕ) → n ≡ test-refusal r j → (n ≡ 0 → ⊥) → (record { refusal = n; session = r } ≡ moved r j a) × (j ≡ journal-after r j a)
+  unfolding moved journal-after
+  move-untested n e h = let m = first-number n e h in (rw (← m, ne-eqb n 0 h), rw (← m, ne-eqb n 0 h))
+
+  module _ (size : Sized (r .state)) (free : test-refusal r j ≡ 0) (made : Moved)
       (e : made ≡ moved-of (r .state) (a .processor) (a .action) (a .operand)) where
+    lent : (12000 ≤ length j) × (session-ok r ≡ true)
+    lent = lent-passed r (length j) (test-passed r j free .0)
+
     made-is : made ≡ record { refusal = refusal (shown r) a; state = choose (eqb (refusal (shown r) a) 0) (encode (next (shown r) a)) (r .state) }
-    made-is = e ∙ moved-valid (r .state) size (session-held r size (lent-passed r (length j) free .1) .state) a
+    made-is = e ∙ moved-valid (r .state) size (session-held r size (lent .1) .state) a
 
     number-is : made .refusal ≡ refusal (shown r) a
     number-is = ap (λ (x : Moved). x .refusal) made-is
@@ -94,27 +108,28 @@ module _ (r : Session) (j : List ℕ) (a : Move) where
     unfolding move-refusal
     number-of = rw free
 
-    -- 2, 3, 8, 4 or 5, 6, 7, 15
-    pub made-kept : (made .refusal ≡ 0 → ⊥) → Kept r j a (made .refusal)
-    made-kept h = move-kept (made .refusal) (number-is ∙ number-of) h
+    -- 2, 3, 8, 4 or 5, 6, 7, 15, or none
+    pub made-answer : record { refusal = made .refusal; session = record { state = made .state; initial = r .initial } } ≡ moved r j a
+    unfolding moved
+    made-answer =
+        ap (λ (x : Moved). record { refusal = x .refusal; session = record { state = x .state; initial = r .initial } }) made-is ∙
+        rw (← number-of) (by (refusal (shown r) a) (eqb (refusal (shown r) a) 0) (encode (next (shown r) a)))
+      where
+        by : (n : ℕ) (b : Bool) (s : Record) →
+            _≡_ {A = Answer} (record { refusal = n; session = record { state = choose b s (r .state); initial = r .initial } })
+            (record { refusal = n; session = choose b (record { state = s; initial = r .initial }) r })
+        by n true s = refl
+        by n false s = refl
 
-    module _ (taken : made .refusal ≡ 0) where
-      none : refusal (shown r) a ≡ 0
-      none = sym number-is ∙ taken
-
-      pub made-room : 3 * r .state .applied + 3 ≤ length j
-      unfolding decode
-      made-room = omega (arith, lent-passed r (length j) free .0, legal (shown r) a (not-refused (shown r) a none .0) .room)
-
-      pub made-answer : record { refusal = 0; session = record { state = made .state; initial = r .initial } } ≡ moved r j a
-      unfolding moved
-      made-answer =
-          rw (← number-of, none)
-          (ap (λ (x : Moved). record { refusal = 0; session = record { state = x .state; initial = r .initial } }) made-is ∙ rw none)
-
-      pub made-journal : written-at (r .state .applied) a j ≡ journal-after r j a
-      unfolding journal-after decode
-      made-journal = rw (← number-of, none)
+    pub made-journal : choose (eqb (made .refusal) 0) (stored j (r .state .applied) a) j ≡ journal-after r j a
+    unfolding journal-after decode
+    made-journal = rw (number-is, ← number-of) (by (eqb (refusal (shown r) a) 0) refl)
+      where
+        by : (b : Bool) → eqb (refusal (shown r) a) 0 ≡ b → choose b (stored j (r .state .applied) a) j ≡ choose b (written-at (r .state .applied) a j) j
+        by true e =
+            let free = not-refused (shown r) a (eqb-true (refusal (shown r) a) 0 e) in
+            sets-written j (r .state .applied) a (omega (arith, lent .0, legal (shown r) a (free .0) .room))
+        by false e = refl
 
 -- ---- the journal's front
 

@@ -8,7 +8,7 @@ use mathlib.Core.Path.{_≡_, refl, sym, ap, _∙_, subst}
 use native.Mathlib.Omega.{arith}
 use lib.Dec.{eqb}
 use lib.ListN.{length, getD, set, take, replicate, length-take}
-use borrow.Author.Tests.{eqb-true, eqb-false, eq-eqb, ne-eqb, lt-ltb}
+use borrow.Author.Tests.{eqb-true, eq-eqb, ne-eqb, lt-ltb}
 use Rattle.state.specs.declared.State.{State as Record}
 use Rattle.state.specs.declared.Processor as declared
 use Rattle.state.specs.Record.{processor-of}
@@ -32,8 +32,8 @@ use Rattle.reference.specs.Script.{call-of, progress}
 use Rattle.reference.specs.Session.{moves}
 use Rattle.reference.proofs.Legal.{legal}
 use Rattle.reference.proofs.Moves.{accepted-length}
-use Rattle.reference.proofs.Script.{progress-most, progress-snoc, progress-stop}
-use Rattle.session.proofs.Replayed.{Going, going-start, going-more, move-at, moves-more, moves-on, moves-front, caused}
+use Rattle.reference.proofs.Script.{progress-most, progress-snoc}
+use Rattle.session.proofs.Replayed.{Going, going-start, going-more, made-all, move-at, moves-more, moves-front, caused}
 
 -- each thread's progress
 abbrev pub calls-of : Config → List Move → List ℕ
@@ -55,7 +55,7 @@ module _ (c : Config) (right : config-cause c ≡ 0) (ms : List Move) (ok : acce
   goes = by-action (λ n x. eqb n 0 ≡ is-go x) refl refl refl refl refl refl refl (a .action) (legal s a free .action)
 
   more : (k : ℕ) → progress (start c) (ms ++ a ∷ []) k ≡ progress (start c) ms k + one-if (call-of s a k)
-  more k = progress-snoc ms (start c) a k ok free
+  more k = progress-snoc ms (start c) a k
 
   -- a call is made at App, by a thread
   inside : is-go (action-of (a .action)) ≡ false → current < 33
@@ -131,18 +131,7 @@ module _ (c : Config) (right : config-cause c ≡ 0) (n : ℕ) (j : List ℕ) (h
     ends : Ends front Counting n counting-more (run-of s front) (counted-of s front (replicate 33 0))
     ends = rw front-moves (run-ends front Counting n counting-more n 0 s (replicate 33 0) begins (omega arith))
 
-    pub counted-is : counted-of s front (replicate 33 0) ≡ calls-of c (moves n j)
-    counted-is = ends .reached .calls-are ∙ by (eqb (run-of s front .refusal) 0) refl ∙ ap (calls-of c) (moves-front n j h)
-      where
-        by : (b : Bool) → eqb (run-of s front .refusal) 0 ≡ b → calls-of c (moves (run-of s front .made) front) ≡ calls-of c (moves n front)
-        by true t = ap (λ (i : ℕ). calls-of c (moves i front)) (ends .whole (eqb-true (run-of s front .refusal) 0 t))
-        by false t =
-            let z = eqb-false (run-of s front .refusal) 0 t in
-            let i : ℕ = run-of s front .made in
-            let g = ends .reached .going in
-            let m = moves-on n i front (ends .part z) in
-            let stop : cause (run (start c) (moves i front)) (move-at front i) ≡ 0 → ⊥ =
-            λ q. z (ends .cause z ∙ caused c right front i (run-of s front .state) g _ refl ∙ q) in
-            tabulate-same _ _ 0 33
-            (λ k x y.
-            sym (ap (λ (l : List Move). progress (start c) l k) (m .1) ∙ progress-stop (moves i front) (start c) (move-at front i) (m .0) k (g .all) stop))
+    pub counted-is : accepted (start c) (moves n j) ≡ true → counted-of s front (replicate 33 0) ≡ calls-of c (moves n j)
+    counted-is ok =
+        let z : run-of s front .refusal ≡ 0 = eqb-true (run-of s front .refusal) 0 (made-all c right n j h s e .accepts ∙ ok) in
+        ends .reached .calls-are ∙ ap (λ (i : ℕ). calls-of c (moves i front)) (ends .whole z) ∙ ap (calls-of c) (moves-front n j h)

@@ -10,4 +10,5 @@ pub mod Pictures
 pub mod Shown
 pub mod Holding
 pub mod Numbers
+pub mod Along
 pub mod Worked

@@ -12,24 +12,22 @@ use Rattle.reference.specs.Refusal.{refuse}
 use Rattle.reference.specs.Start.{Config, config-cause, start}
 use Rattle.reference.specs.Step.{Move}
 use Rattle.reference.specs.Cause.{cause}
-use Rattle.reference.specs.Break.{step-breaks}
 use Rattle.reference.specs.Session.{moves, short, replays, state-of}
 use Rattle.reference.proofs.Same.{same-state-exact}
-use Rattle.reference.proofs.Laws.{good}
-use Rattle.reference.proofs.Break.{never-breaks}
-use Rattle.session.specs.Contract.{shown, lent-refusal, or-later, move-refusal, matches, undo-refusal}
+use Rattle.session.specs.Contract.{shown, lent-refusal, or-later, matches, test-refusal, move-refusal, undo-refusal}
+use Rattle.session.proofs.Reached.{never-broken}
 use Rattle.session.proofs.Standing.{moves-front}
 use Rattle.session.proofs.Shown.{record-right}
 use Rattle.session.proofs.Holding.{Holds, shown-is, config-is, applied-held}
 
--- a later cause that is never there
-or-later-none : (c n : ℕ) → (c ≡ 0 → n ≡ 0) → or-later c n ≡ c
-or-later-none zero n h = h refl
-or-later-none (suc c) n h = refl
-
 pub or-refuse : (b : Bool) (k n : ℕ) → or-later (refuse b (suc k) 0) n ≡ refuse b (suc k) n
 or-refuse true k n = refl
 or-refuse false k n = refl
+
+-- three causes one after the other
+or-later-or : (x y z : ℕ) → or-later (or-later x y) z ≡ or-later x (or-later y z)
+or-later-or zero y z = refl
+or-later-or (suc x) y z = refl
 
 module _ (c : Config) (right : config-cause c ≡ 0) (ms : List Move) (r : Session) (j : List ℕ) (h : Holds c ms r j) where
   keeps-rules : session-ok r ≡ true
@@ -49,16 +47,18 @@ module _ (c : Config) (right : config-cause c ≡ 0) (ms : List Move) (r : Sessi
   unfolding replays
   own-replays = replayed-is j ∙ rw (moves-front ms j (h .whole), h .legal) (same-state-exact .itself (state-of c ms))
 
-  -- 15 is never there at a step
-  cause-is : (a : Move) → or-later (cause (shown r) a) (refuse (step-breaks (shown r) a) 15 0) ≡ cause (state-of c ms) a
-  cause-is a =
-      rw (shown-is c right ms r j h)
-      (or-later-none (cause (state-of c ms) a) _
-      (λ e. rw (never-breaks (state-of c ms) a (good c right ms (h .legal)) e)))
+  -- 10 and 16 are those of the test
+  pub test-number : (o : List ℕ) (n : ℕ) → or-later (test-refusal r o) n ≡ refuse (short (length o)) 10 (refuse (not (matches r o)) 16 n)
+  unfolding test-refusal
+  test-number o n =
+      or-later-or (lent-refusal r (length o)) (refuse (not (matches r o)) 16 0) n ∙ lent-number (length o) _ ∙
+      ap (refuse (short (length o)) 10) (or-refuse (not (matches r o)) 15 n)
 
-  pub move-number : (o : List ℕ) (a : Move) → move-refusal r o a ≡ refuse (short (length o)) 10 (cause (state-of c ms) a)
+  pub move-number : (o : List ℕ) (a : Move) → move-refusal r o a ≡ refuse (short (length o)) 10 (refuse (not (matches r o)) 16 (cause (state-of c ms) a))
   unfolding move-refusal
-  move-number o a = lent-number (length o) _ ∙ ap (refuse (short (length o)) 10) (cause-is a)
+  move-number o a =
+      test-number o _ ∙
+      ap (λ (n : ℕ). refuse (short (length o)) 10 (refuse (not (matches r o)) 16 n)) (rw (shown-is c right ms r j h) (never-broken c ms right (h .legal) a))
 
   pub undo-number : (o : List ℕ) → undo-refusal r o ≡ refuse (short (length o)) 10 (refuse (eqb (length ms) 0) 9 (refuse (not (matches r o)) 16 0))
   unfolding undo-refusal

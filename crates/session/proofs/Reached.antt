@@ -8,27 +8,34 @@ use lib.Dec.{eqb}
 use Rattle.state.specs.Association.{encode}
 use Rattle.step.specs.declared.Moved.{Moved}
 use Rattle.step.specs.model.Moves.{moved-of}
-use Rattle.reference.specs.Refusal.{refuse}
-use Rattle.reference.specs.Lists.{choose, if-zero}
+use Rattle.reference.specs.Refusal.{bad-record, refuse}
+use Rattle.reference.specs.Lists.{choose}
 use Rattle.reference.specs.State.{State}
 use Rattle.reference.specs.Start.{Config, config-cause, start}
 use Rattle.reference.specs.Step.{Move, next, run}
 use Rattle.reference.specs.Cause.{cause, accepted}
+use Rattle.reference.specs.Break.{step-breaks}
 use Rattle.reference.proofs.Laws.{good}
 use Rattle.reference.proofs.Break.{never-breaks}
 use Rattle.shown.proofs.Reached.{reached-allowed}
 use Rattle.agreement.proofs.Moved.{moved-shows}
+use Rattle.session.specs.Contract.{or-later}
 
 abbrev pub made-of : State → Move → Moved
 made-of s a = record { refusal = cause s a; state = choose (eqb (cause s a) 0) (encode (next s a)) (encode s) }
+
+-- 15 is never there at a step
+pub never-broken : (c : Config) (ms : List Move) → config-cause c ≡ 0 → accepted (start c) ms ≡ true → (a : Move) →
+    or-later (cause (run (start c) ms) a) (refuse (step-breaks (run (start c) ms) a) bad-record 0) ≡ cause (run (start c) ms) a
+never-broken c ms e ok a = only (cause (run (start c) ms) a) (λ z. never-breaks (run (start c) ms) a (good c e ms ok) z)
+  where
+    only : (n : ℕ) {b : Bool} → (n ≡ 0 → b ≡ false) → or-later n (refuse b bad-record 0) ≡ n
+    only zero h = rw (h refl)
+    only (suc n) h = refl
 
 pub moved-reached : (c : Config) (ms : List Move) → config-cause c ≡ 0 → accepted (start c) ms ≡ true → (a : Move) →
     moved-of (encode (run (start c) ms)) (a .processor) (a .action) (a .operand) ≡ made-of (run (start c) ms) a
 moved-reached c ms e ok a =
     let s : State = run (start c) ms in
     moved-shows s (reached-allowed c e ms ok) a ∙
-    ap (λ (n : ℕ). record { refusal = n; state = choose (eqb n 0) (encode (next s a)) (encode s) }) (only (cause s a) (λ z. never-breaks s a (good c e ms ok) z))
-  where
-    only : (n : ℕ) {b : Bool} → (n ≡ 0 → b ≡ false) → if-zero n (refuse b 15 0) n ≡ n
-    only zero h = rw (h refl)
-    only (suc n) h = refl
+    ap (λ (n : ℕ). record { refusal = n; state = choose (eqb n 0) (encode (next s a)) (encode s) }) (never-broken c ms e ok a)

@@ -11,6 +11,7 @@ use Rattle.reference.specs.Step.{Move}
 use Rattle.reference.specs.Session.{bytes, moves, all-but-last}
 use Rattle.reference.proofs.Moves.{length-all-but-last}
 use Rattle.session.specs.Contract.{written-at}
+use Rattle.session.specs.model.Replay.{stored}
 
 pub length-bytes : (ms : List Move) → length (bytes ms) ≡ 3 * length ms
 unfolding bytes
@@ -73,7 +74,7 @@ module _ (j : List ℕ) (n : ℕ) (a : Move) (room : 3 * n + 3 ≤ length j) whe
   written-length = length-append (take (3 * n) j ++ bytes (a ∷ [])) (drop (3 * n + 3) j) ∙ omega (arith, head-length, length-drop (3 * n + 3) j)
 
   -- what three stores make of it
-  pub sets-written : set (set (set j (3 * n) (a .processor)) (3 * n + 1) (a .action)) (3 * n + 2) (a .operand) ≡ written-at n a j
+  pub sets-written : stored j n a ≡ written-at n a j
   unfolding written-at bytes
   sets-written =
       ap (λ (k : ℕ). set (set (set j (3 * n) (a .processor)) (3 * n + 1) (a .action)) k (a .operand)) (add-two (3 * n)) ∙

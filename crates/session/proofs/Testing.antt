@@ -1,40 +1,64 @@
 -- What the journal's test finds, case by case: the shape in which its code arrives at it.
 -- Assumes nothing.
-use Prim.Native.Nat.{ℕ, zero, suc, _*_}
-use mathlib.Core.Bool.{Bool, not}
+use Prim.Native.Nat.{ℕ, zero, suc}
+use mathlib.Core.Bool.{Bool, true, not}
 use mathlib.Core.List.{List}
-use mathlib.Core.Path.{_≡_, refl, _∙_}
+use mathlib.Core.Path.{_≡_, refl, sym, ap, _∙_}
 use native.Mathlib.Omega.{arith}
-use lib.ListN.{length, replicate, take}
+use lib.ListN.{length, replicate}
 use Rattle.state.specs.declared.Session.{Session}
 use Rattle.state.specs.Association.{decode}
-use Rattle.state.specs.model.Access.{start-record}
-use Rattle.state.specs.Record.{Sized}
-use Rattle.step.specs.model.Moves.{counted-of}
 use Rattle.reference.specs.Refusal.{refuse}
-use Rattle.session.specs.Contract.{config-of, lent-refusal, standing, matches, tested}
-use Rattle.session.proofs.Answers.{lent-passed}
+use Rattle.reference.specs.Lists.{if-zero}
+use Rattle.reference.specs.Start.{start}
+use Rattle.reference.specs.Cause.{accepted}
+use Rattle.reference.specs.Session.{replays}
+use Rattle.reference.proofs.Tests.{both-left}
+use Rattle.session.specs.Contract.{config-of, lent-refusal, standing, matches, test-refusal, tested}
+use Rattle.session.specs.model.Replay.{counted-in}
+use Rattle.session.proofs.Answers.{lent-passed, test-passed}
 use Rattle.session.proofs.Counted.{calls-of, counted-is}
 use Rattle.session.proofs.Undone.{config-right, applied-most}
 
 module _ (r : Session) (j : List ℕ) where
-  -- 10 or 15
-  pub tested-lent : (n : ℕ) → n ≡ lent-refusal r (length j) → (n ≡ 0 → ⊥) → record { refusal = n; calls = replicate 33 0 } ≡ tested r j
-  unfolding tested
-  tested-lent zero e h = absurd (h refl)
-  tested-lent (suc n) e h = rw (← e)
+  -- what is counted in the end, from the list as it was
+  abbrev counts : List ℕ → List ℕ
+  counts calls = if-zero (lent-refusal r (length j)) (counted-in r j calls) calls
 
-  -- the calls that the replay counts
-  pub counted-in : (size : Sized (r .state)) → lent-refusal r (length j) ≡ 0 → (calls : List ℕ) →
-      calls ≡ counted-of (start-record (r .state .p) (r .state .t) (r .state .m) (r .initial) (r .state .stealing)) (take (3 * r .state .applied) j) (replicate 33 0) →
-      calls ≡ calls-of (config-of r) (standing r j)
-  unfolding decode
-  counted-in size free calls e =
-      let h = lent-passed r (length j) free in
-      e ∙ counted-is (config-of r) (config-right r size (h .1)) (r .state .applied) j (omega (arith, h .0, applied-most r size (h .1))) _ refl
+  -- 10 or 15
+  pub test-lent : (n : ℕ) → n ≡ lent-refusal r (length j) → (n ≡ 0 → ⊥) → (calls : List ℕ) → (n ≡ test-refusal r j) × (calls ≡ counts calls)
+  unfolding test-refusal
+  test-lent zero e h calls = absurd (h refl)
+  test-lent (suc n) e h calls = rw (← e) (refl, refl)
 
   -- 16, or none
-  pub tested-by : lent-refusal r (length j) ≡ 0 → (calls : List ℕ) → calls ≡ calls-of (config-of r) (standing r j) →
-      (b : Bool) → b ≡ matches r j → record { refusal = refuse (not b) 16 0; calls = calls } ≡ tested r j
+  pub test-by : lent-refusal r (length j) ≡ 0 → (b : Bool) → b ≡ matches r j → (calls after : List ℕ) → after ≡ counted-in r j calls →
+      (refuse (not b) 16 0 ≡ test-refusal r j) × (after ≡ counts calls)
+  unfolding test-refusal
+  test-by free b e calls after are = (rw (free, ← e), are ∙ rw free)
+
+  -- with each thread's calls: refused, none
+  pub tested-refused : (n : ℕ) → n ≡ test-refusal r j → (n ≡ 0 → ⊥) → record { refusal = n; calls = replicate 33 0 } ≡ tested r j
   unfolding tested
-  tested-by free calls are b e = rw (free, ← e, are)
+  tested-refused zero e h = absurd (h refl)
+  tested-refused (suc n) e h = rw (← e)
+
+  module _ (n : ℕ) (e : n ≡ test-refusal r j) (z : n ≡ 0) where
+    free : lent-refusal r (length j) ≡ 0
+    free = test-passed r j (sym e ∙ z) .0
+
+    legal : accepted (start (config-of r)) (standing r j) ≡ true
+    unfolding matches replays
+    legal = both-left (accepted (start (config-of r)) (standing r j)) _ (test-passed r j (sym e ∙ z) .1)
+
+    counted-all : counted-in r j (replicate 33 0) ≡ calls-of (config-of r) (standing r j)
+    unfolding decode
+    counted-all =
+        let h = lent-passed r (length j) free in
+        counted-is (config-of r) (config-right r (h .1)) (r .state .applied) j (omega (arith, h .0, applied-most r (h .1))) _ refl legal
+
+    pub tested-passed : (calls : List ℕ) → calls ≡ counts (replicate 33 0) → record { refusal = n; calls = calls } ≡ tested r j
+    unfolding tested
+    tested-passed calls are =
+        let all : calls ≡ calls-of (config-of r) (standing r j) = are ∙ rw free counted-all in
+        rw (← e, z, all)

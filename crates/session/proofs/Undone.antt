@@ -25,7 +25,7 @@ use Rattle.reference.specs.Start.{Config, config-cause, start}
 use Rattle.reference.specs.Step.{Move, run}
 use Rattle.reference.specs.Cause.{accepted}
 use Rattle.reference.specs.Session.{moves, all-but-last, replays}
-use Rattle.reference.proofs.Tests.{true-range}
+use Rattle.reference.proofs.Tests.{both-left, both-right, true-range}
 use Rattle.reference.proofs.Same.{same-state-exact}
 use Rattle.shown.proofs.Kept.{state-kept, fields-say}
 use Rattle.shown.proofs.Decode.{decode-encode, encode-ok}
@@ -38,35 +38,35 @@ use Rattle.session.proofs.Replayed.{Made, made-all, moves-but-last}
 
 -- ---- a record that keeps the rules
 
-module _ (r : Session) (size : Sized (r .state)) (ok : session-ok r ≡ true) where
+module _ (r : Session) (ok : session-ok r ≡ true) where
+  pub state-right : state-ok (r .state) ≡ true
+  unfolding session-ok
+  state-right = both-left (state-ok (r .state)) _ ok
+
   -- the start table read off it is in range
   pub config-right : config-cause (config-of r) ≡ 0
-  unfolding config-cause
+  unfolding session-ok config-cause
   config-right =
-      let h = session-held r size ok in
-      let f = fields-say (r .state) (state-kept (r .state) (h .state) .fields) in
+      let f = fields-say (r .state) (state-kept (r .state) state-right .fields) in
       rw (
         true-range 1 8 (r .state .p) (f .p-range .0) (f .p-range .1),
         true-range 1 32 (r .state .t) (f .t-range .0) (f .t-range .1),
         true-range 1 8 (r .state .m) (f .m-range .0) (f .m-range .1),
-        true-range 1 (r .state .t) (r .initial) (h .initial .0) (h .initial .1),
+        both-right (state-ok (r .state)) _ ok,
         le-leb (r .state .stealing) 1 (f .stealing),
       )
 
   pub applied-most : r .state .applied ≤ 4000
-  applied-most = fields-say (r .state) (state-kept (r .state) (session-held r size ok .state) .fields) .applied
+  applied-most = fields-say (r .state) (state-kept (r .state) state-right .fields) .applied
 
-  pub state-right : state-ok (r .state) ≡ true
-  state-right = session-held r size ok .state
-
-  shown-back : encode (shown r) ≡ r .state
-  shown-back = ap (λ (x : Session). x .state) (session-held r size ok .same)
+  shown-back : Sized (r .state) → encode (shown r) ≡ r .state
+  shown-back size = ap (λ (x : Session). x .state) (session-held r size ok .same)
 
 -- the record of the state that accepted moves give, from that start table
 module _ (r : Session) (size : Sized (r .state)) (ok : session-ok r ≡ true) (ms : List Move) (legal : accepted (start (config-of r)) ms ≡ true) (s : Record)
     (is : s ≡ encode (run (start (config-of r)) ms)) where
   allowed : Allowed (run (start (config-of r)) ms)
-  allowed = reached-allowed (config-of r) (config-right r size ok) ms legal
+  allowed = reached-allowed (config-of r) (config-right r ok) ms legal
 
   pub given-ok : state-ok s ≡ true
   given-ok = rw is (encode-ok _ allowed)
@@ -83,7 +83,7 @@ module _ (r : Session) (size : Sized (r .state)) (ok : session-ok r ≡ true) (m
       by false z = sym z
       by true z =
           let w : run (start (config-of r)) ms ≡ shown r = same-state-exact .only _ _ z in
-          absurd (true≢false (sym (g (is ∙ ap encode w ∙ shown-back r size ok))))
+          absurd (true≢false (sym (g (is ∙ ap encode w ∙ shown-back r ok size))))
 
   pub given-replays : (b : Bool) → (b ≡ true → s ≡ r .state) → (s ≡ r .state → b ≡ true) → b ≡ replays (start (config-of r)) ms (shown r)
   unfolding replays
@@ -115,10 +115,10 @@ module _ (r : Session) (size : Sized (r .state)) (j : List ℕ) (free : lent-ref
   ok = lent-passed r (length j) free .1
 
   pub journal-long : 3 * n ≤ length j
-  journal-long = omega (arith, lent-passed r (length j) free .0, applied-most r size ok)
+  journal-long = omega (arith, lent-passed r (length j) free .0, applied-most r ok)
 
   right : config-cause c ≡ 0
-  right = config-right r size ok
+  right = config-right r ok
 
   made : (m : ℕ) → 3 * m ≤ length j → Made c (moves m j) (eqb (run-of first (take (3 * m) j) .refusal) 0) (run-of first (take (3 * m) j) .state)
   made m h = made-all c right m j h first refl

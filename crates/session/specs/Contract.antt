@@ -1,4 +1,4 @@
--- What start, move, step back, the journal's front and its test answer, on all inputs: the equations that their contracts state.
+-- What start, the journal's test, move, step back and the journal's front answer, on all inputs: the equations that their contracts state.
 -- Assumes nothing.
 use Prim.Native.Nat.{ℕ, _+_, _*_}
 use mathlib.Core.Bool.{Bool, not}
@@ -49,11 +49,31 @@ or-later cause later = if-zero cause later cause
 unfoldable pub lent-refusal : Session → ℕ → ℕ
 lent-refusal r n = refuse (short n) too-short (refuse (not (session-ok r)) bad-record 0)
 
--- ---- move: 10, 15 (record), 2, 3, 8, 4 or 5, 6, 7, 15 (step); refused, the record handed in and the journal as it was
+-- ---- the journal's test (document 02, No. 6): 10, 15, 16; and how many calls each thread has made by the journal, 0 where it is refused
+
+-- the journal's standing moves
+abbrev pub standing : Session → List ℕ → List Move
+standing r j = moves (shown r .applied) j
+
+-- they give the record
+unfoldable pub matches : Session → List ℕ → Bool
+matches r j = replays (start (config-of r)) (standing r j) (shown r)
+
+-- the first causes of a move and of a turn
+unfoldable pub test-refusal : Session → List ℕ → ℕ
+test-refusal r j = or-later (lent-refusal r (length j)) (refuse (not (matches r j)) bad-journal 0)
+
+abbrev pub progress-in : Session → List ℕ → ℕ → ℕ
+progress-in r j = progress (start (config-of r)) (standing r j)
+
+unfoldable pub tested : Session → List ℕ → Tested
+tested r j =
+    record { refusal = test-refusal r j; calls = if-zero (test-refusal r j) (tabulate (progress-in r j) 0 33) (replicate 33 0) }
+
+-- ---- move: 10, 15 (record), 16, 2, 3, 8, 4 or 5, 6, 7, 15 (step); refused, the record handed in and the journal as it was
 
 unfoldable pub move-refusal : Session → List ℕ → Move → ℕ
-move-refusal r j a =
-    or-later (lent-refusal r (length j)) (or-later (cause (shown r) a) (refuse (step-breaks (shown r) a) bad-record 0))
+move-refusal r j a = or-later (test-refusal r j) (or-later (cause (shown r) a) (refuse (step-breaks (shown r) a) bad-record 0))
 
 unfoldable pub moved : Session → List ℕ → Move → Answer
 moved r j a = answered (move-refusal r j a) (session-record (next (shown r) a) (r .initial)) r
@@ -64,26 +84,6 @@ written-at n a j = take (3 * n) j ++ bytes (a ∷ []) ++ drop (3 * n + 3) j
 
 unfoldable pub journal-after : Session → List ℕ → Move → List ℕ
 journal-after r j a = choose (eqb (move-refusal r j a) 0) (written-at (shown r .applied) a j) j
-
--- ---- the journal's test: 10, 15, 16; and how many calls each thread has made by the journal, 0 where 10 or 15 is there
-
--- the journal's standing moves
-abbrev pub standing : Session → List ℕ → List Move
-standing r j = moves (shown r .applied) j
-
--- they give the record
-unfoldable pub matches : Session → List ℕ → Bool
-matches r j = replays (start (config-of r)) (standing r j) (shown r)
-
-abbrev pub progress-in : Session → List ℕ → ℕ → ℕ
-progress-in r j = progress (start (config-of r)) (standing r j)
-
-unfoldable pub tested : Session → List ℕ → Tested
-tested r j =
-    record {
-      refusal = or-later (lent-refusal r (length j)) (refuse (not (matches r j)) bad-journal 0);
-      calls = if-zero (lent-refusal r (length j)) (tabulate (progress-in r j) 0 33) (replicate 33 0);
-    }
 
 -- ---- step back: 10, 15, 9, 16; refused, the record handed in. The journal is left.
 

@@ -3,14 +3,14 @@
 use Prim.Native.Nat.{ℕ, zero, suc}
 use mathlib.Core.List.{List, [], _∷_, _++_}
 use mathlib.Core.Path.{_≡_}
-use lib.ListN.{replicate, set}
+use lib.ListN.{replicate}
 use Rattle.state.specs.declared.Token.{Token}
 use Rattle.state.specs.declared.Thread.{Thread}
 use Rattle.state.specs.declared.Processor.{Processor}
 use Rattle.state.specs.declared.Mutex.{Mutex}
 use Rattle.state.specs.declared.State.{State}
 use Rattle.state.specs.declared.Session.{Session}
-use Rattle.state.specs.Record.{zero-thread, zero-processor, zero-mutex, zero-session, processor-of, mutex-of, thread-of, first-of}
+use Rattle.state.specs.Record.{zero-session, processor-of, mutex-of, thread-of, first-of}
 use Rattle.reference.specs.Start.{Config}
 use Rattle.reference.specs.Step.{Move}
 use Rattle.session.specs.Contract.{started, moved, journal-after}
@@ -70,42 +70,23 @@ pub record Reaches (c : Config) (ms : List Move) (Q : State → Type 0) : Type 0
 abbrev pub s : List Move
 s = by 1 1 1 ∷ by 2 1 1 ∷ by 1 0 0 ∷ by 2 0 0 ∷ by 1 3 1 ∷ goes 1 3
 
--- K8's record: processor 2 at L8 has seen (1,1), the token is (1,2), thread 2 waits
-unfoldable pub at-l8 : Session
-at-l8 =
-    record {
-      state = record {
-        p = 2;
-        t = 2;
-        m = 1;
-        stealing = 0;
-        applied = 20;
-        chains = record {
-          firsts = set (replicate 17 0) 1 2;
-          threads = set (set (replicate 33 zero-thread) 1 (thread 3 1 0)) 2 (thread 2 1 0);
-        };
-        processors = set (set (replicate 9 zero-processor) 1 (processor 0 1 0 0 (token 0 0) 2)) 2 (processor 8 0 0 1 (token 1 1) 0);
-        mutexes = set (replicate 9 zero-mutex) 1 (mutex 1 0 (token 1 2));
-      };
-      initial = 2;
-    }
+-- K8: all three lock 1, thread 1 owns it and unlocks: token (1,1); processor 2 goes L3, L4, L6, L7; processor 1 takes its token back and serves thread 2, yields,
+-- so that thread 2 is current, and unlocks with the queue empty: token (1,2)
+abbrev pub until-l8 : List Move
+until-l8 =
+    by 1 1 1 ∷ goes 1 1 ++ by 2 1 1 ∷ goes 2 1 ++ by 3 1 1 ∷ goes 3 1 ++ by 1 3 1 ∷ goes 1 3 ++ goes 2 4 ++ goes 1 4 ++ by 1 4 0 ∷ goes 1 5 ++ by 1 3 1 ∷ goes 1 3
 
--- K10's record: one processor at CI2, its thread terminated, n moves standing
-unfoldable pub idle : ℕ → Session
-idle n =
-    record {
-      state = record {
-        p = 1;
-        t = 1;
-        m = 1;
-        stealing = 0;
-        applied = n;
-        chains = record { firsts = replicate 17 0; threads = set (replicate 33 zero-thread) 1 (thread 5 0 0) };
-        processors = set (replicate 9 zero-processor) 1 (processor 1 0 0 0 (token 0 0) 0);
-        mutexes = replicate 9 zero-mutex;
-      };
-      initial = 1;
-    }
+-- K9: thread 1 owns the mutex
+abbrev pub owned : List Move
+owned = by 1 1 1 ∷ goes 1 1
+
+-- K10: the only thread exits, and n goes of its processor find nobody ready
+abbrev pub idles : ℕ → List Move
+idles n = by 1 5 0 ∷ goes 1 n
+
+-- a move's number after a session's moves, where the journal lent has none of them
+abbrev pub without-journal : Config → List Move → Move → ℕ
+without-journal c ms a = moved (record-after (started c .session) journal ms) journal a .refusal
 
 pub record Table : Type 0 where
   -- K1: the largest table is accepted; K2 and K3: a ninth processor, and no thread created, are not
@@ -127,12 +108,17 @@ pub record Table : Type 0 where
   pub k7-owner : Reaches (config 3 3 1 3) (s ++ goes 2 2 ++ goes 1 1 ++ by 3 2 1 ∷ goes 3 3) (λ r. mutex-of r 1 ≡ mutex 1 3 (token 0 0))
   pub k7 : Reaches (config 3 3 1 3) (s ++ goes 2 2 ++ goes 1 1 ++ by 3 2 1 ∷ goes 3 3 ++ goes 1 1 ++ goes 3 1)
       (λ r. (mutex-of r 1 ≡ mutex 2 3 (token 0 0)) × (processor-of r 1 ≡ processor 0 1 0 0 (token 0 0) 1))
-  -- K8: an old token does not pass L8
-  pub k8 : (moved at-l8 journal (by 2 0 0) .refusal ≡ 0) × (processor-of (moved at-l8 journal (by 2 0 0) .session .state) 2 ≡ processor 1 0 0 0 (token 0 0) 0)
+  -- K8: an old token does not pass L8; the token stays
+  pub k8-before : Reaches (config 3 3 1 3) until-l8 (λ r. (processor-of r 2 ≡ processor 8 0 0 1 (token 1 1) 0) × (mutex-of r 1 .token ≡ token 1 2))
+  pub k8 : Reaches (config 3 3 1 3) (until-l8 ++ goes 2 1) (λ r. (processor-of r 2 ≡ processor 1 0 0 0 (token 0 0) 0) × (mutex-of r 1 .token ≡ token 1 2))
   -- K9 unlock by a thread that is not the owner: 6
-  pub k9 : refusals (started (config 2 2 1 2) .session) journal (by 1 1 1 ∷ by 1 0 0 ∷ by 2 3 1 ∷ []) ≡ 0 ∷ 0 ∷ 6 ∷ []
+  pub k9 : refusals (started (config 2 2 1 2) .session) journal (owned ++ by 2 3 1 ∷ []) ≡ 0 ∷ 0 ∷ 6 ∷ []
   -- K10: the 4,000th move is accepted, the next is not
-  pub k10 : (moved (idle 3999) journal (by 1 0 0) .refusal ≡ 0) × (moved (idle 4000) journal (by 1 0 0) ≡ record { refusal = 8; session = idle 4000 })
+  pub k10 : refusals (started (config 1 1 1 1) .session) journal (idles 4000) ≡ replicate 4000 0 ++ 8 ∷ []
+  -- the same moves with a journal that does not replay: 16
+  pub k8-journal : without-journal (config 3 3 1 3) until-l8 (by 2 0 0) ≡ 16
+  pub k9-journal : without-journal (config 2 2 1 2) owned (by 2 3 1) ≡ 16
+  pub k10-journal : (without-journal (config 1 1 1 1) (idles 3998) (by 1 0 0) ≡ 16) × (without-journal (config 1 1 1 1) (idles 3999) (by 1 0 0) ≡ 16)
 
 -- document 02, No. 13
 pub record Stealing : Type 0 where

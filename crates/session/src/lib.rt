@@ -5,12 +5,13 @@ mod same;
 
 ghost use mathlib.Core.Path.{_≡_};
 ghost use mathlib.Core.Bool.{_&&_};
-ghost use Rattle.reference.specs.Lists.{in-range};
+ghost use Rattle.reference.specs.Lists.{if-zero, in-range};
 ghost use Rattle.reference.specs.Step.{move-of};
 ghost use lib.Dec.{leb};
 ghost use lib.ListN.{length};
-ghost use Rattle.session.specs.Contract.{table, started, lent-refusal, moved, journal-after, tested, undone, front};
-use crate::journal::write_move;
+ghost use Rattle.session.specs.Contract.{table, started, lent-refusal, test-refusal, tested, moved, journal-after, undone, front};
+ghost use Rattle.session.specs.model.Replay.{counted-in};
+use crate::journal::keep_move;
 use crate::replay::replayed;
 use rules::session_ok;
 use state::Session;
@@ -24,7 +25,7 @@ pub struct Answer {
     pub session: Session,
 }
 
-// What the test of a journal finds: 10, 15 or 16, or 0; and how many calls each thread has made by it.
+// What the test of a journal finds: 10, 15 or 16, or 0; and how many calls each thread has made by it, 0 where it is refused.
 pub struct Tested {
     pub refusal: u8,
     pub calls: [u16; 33],
@@ -66,12 +67,30 @@ pub fn lent(session: Session, n: usize) -> u8
     if ok { 0 } else { Refusal::BAD_RECORD }
 }
 
-// Moves processor p: action a with operand o. Accepted, the move's three bytes are the journal's next; refused, record and journal stay.
+// The journal's test: whether its standing moves, made from the start table read off the record, give the record. Each thread's calls among the moves made are
+// added to its count; a list of one has no thread's count.
+fn test(session: Session, journal: &[u8], calls: &mut [u16]) -> u8
+    ensures number { λ r. ⌜ r ≡ test-refusal session (now (journal .entry)) ⌝ }
+    ensures calls { λ r. ⌜ now (calls .exit) ≡ if-zero (lent-refusal session (length (now (journal .entry)))) (counted-in session (now (journal .entry)) (now (calls .entry))) (now (calls .entry)) ⌝ }
+{
+    let first = lent(session, journal.len());
+    if first != 0 {
+        return first;
+    }
+    let state = session.state;
+    let found = replayed(session, journal, state.applied, calls);
+    let agrees = found.agrees;
+    if agrees { 0 } else { Refusal::BAD_JOURNAL }
+}
+
+// Moves processor p: action a with operand o, once the journal is tested. Accepted, the move's three bytes are the journal's next; refused, record and journal
+// stay.
 pub fn make_move(session: Session, journal: &mut [u8], p: u8, a: u8, o: u8) -> Answer
     ensures answer { λ r. ⌜ r ≡ moved session (now (journal .entry)) (move-of p a o) ⌝ }
     ensures written { λ r. ⌜ now (journal .exit) ≡ journal-after session (now (journal .entry)) (move-of p a o) ⌝ }
 {
-    let first = lent(session, journal.len());
+    let mut none = [0u16; 1];
+    let first = test(session, journal, &mut none);
     if first != 0 {
         return Answer {
             refusal: first,
@@ -81,39 +100,27 @@ pub fn make_move(session: Session, journal: &mut [u8], p: u8, a: u8, o: u8) -> A
     let state = session.state;
     let initial = session.initial;
     let made = step::moves::moved(state, p, a, o);
-    let refusal = made.refusal;
-    if refusal != 0 {
-        return Answer { refusal, session };
-    }
-    write_move(journal, state.applied, p, a, o);
+    keep_move(journal, made.refusal, state.applied, p, a, o);
     let state = made.state;
     Answer {
-        refusal: 0,
+        refusal: made.refusal,
         session: Session { state, initial },
     }
 }
 
-// Tests a journal: whether its standing moves give the record, and how many calls each thread makes in them up to the first that is refused.
+// Tests a journal: whether its standing moves give the record, and how many calls each thread has made by them.
 pub fn test_journal(session: Session, journal: &[u8]) -> Tested
     ensures { λ r. ⌜ r ≡ tested session (now (journal .entry)) ⌝ }
 {
     let mut calls = [0u16; 33];
-    let first = lent(session, journal.len());
-    if first != 0 {
-        return Tested {
-            refusal: first,
-            calls,
-        };
+    let refusal = test(session, journal, &mut calls);
+    if refusal == 0 {
+        return Tested { refusal, calls };
     }
-    let state = session.state;
-    let found = replayed(session, journal, state.applied, &mut calls);
-    let agrees = found.agrees;
-    if agrees {
-        return Tested { refusal: 0, calls };
-    }
+    let none = [0u16; 33];
     Tested {
-        refusal: Refusal::BAD_JOURNAL,
-        calls,
+        refusal,
+        calls: none,
     }
 }
 

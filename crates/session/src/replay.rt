@@ -1,11 +1,9 @@
 // Replaying a session's journal from the start table read off its record: one function, which the step back and the journal's test call.
 ghost use mathlib.Core.Path.{_≡_};
-ghost use Prim.Native.Nat.{_*_, _≤_};
-ghost use lib.ListN.{length, take};
-ghost use Rattle.state.specs.model.Access.{start-record};
-ghost use Rattle.step.specs.model.Moves.{counted-of};
+ghost use Prim.Native.Nat.{_≤_};
+ghost use lib.ListN.{length};
 ghost use Rattle.session.specs.Contract.{lent-refusal};
-ghost use Rattle.session.specs.model.Replay.{Replays};
+ghost use Rattle.session.specs.model.Replay.{counted-in, Replays};
 use crate::same::same_state;
 use state::Session;
 use state::State;
@@ -21,7 +19,7 @@ pub(crate) struct Found {
 pub(crate) fn replayed(session: Session, journal: &[u8], k: u16, calls: &mut [u16]) -> Found
     requires { ⌜ (lent-refusal session (length (now journal)) ≡ 0) × (k ≤ session .state .applied) ⌝ }
     ensures state { λ r. ⌜ Replays session (now (journal .entry)) k r ⌝ }
-    ensures calls { λ r. ⌜ now (calls .exit) ≡ counted-of (start-record (session .state .p) (session .state .t) (session .state .m) (session .initial) (session .state .stealing)) (take (3 * session .state .applied) (now (journal .entry))) (now (calls .entry)) ⌝ }
+    ensures calls { λ r. ⌜ now (calls .exit) ≡ counted-in session (now (journal .entry)) (now (calls .entry)) ⌝ }
 {
     let state = session.state;
     let first = State::start(state.p, state.t, state.m, session.initial, state.stealing);

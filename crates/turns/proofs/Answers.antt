@@ -12,19 +12,25 @@ use lib.ListN.{length}
 use borrow.Author.Tests.{ne-eqb, lt-ltb, le-ltb, ltb-true, ltb-false}
 use Rattle.state.specs.declared.State.{State as Record}
 use Rattle.state.specs.declared.Session.{Session}
-use Rattle.state.specs.Record.{zero-session}
+use Rattle.state.specs.Record.{zero-session, processor-of, Sized}
+use Rattle.step.specs.declared.Moved.{Moved}
+use Rattle.step.specs.model.Moves.{moved-of}
 use Rattle.session.specs.declared.Answer.{Answer}
+use Rattle.session.specs.declared.Tested.{Tested}
 use Rattle.reference.specs.Refusal.{refuse}
 use Rattle.reference.specs.Lists.{choose, tabulate}
 use Rattle.reference.specs.Start.{Config, config-cause}
 use Rattle.reference.specs.Step.{Move, move-of}
 use Rattle.reference.specs.Script.{scripts-ok, scripts-cause}
 use Rattle.reference.specs.Session.{lacks-room}
-use Rattle.session.specs.Contract.{shown, config-of, started, or-later, lent-refusal, move-refusal, moved, journal-after, matches, progress-in, tested}
-use Rattle.session.proofs.Holding.{or-passed}
+use Rattle.session.specs.Contract.{shown, config-of, started, or-later, lent-refusal, matches, test-refusal, tested, progress-in, move-refusal, moved, journal-after}
+use Rattle.session.specs.model.Replay.{stored}
+use Rattle.session.proofs.Answers.{or-passed, lent-passed, test-passed, made-answer, made-journal}
+use Rattle.session.proofs.Undone.{state-right}
 use Rattle.turns.specs.Contract.{scripted, turn-made, turn-refusal, turned, turn-journal, class-refusal, classed, class-journal, answers-after, pictures-after}
-use Rattle.turns.specs.model.Turn.{Given}
-use Rattle.turns.proofs.Turned.{its-own}
+use Rattle.turns.specs.declared.made.Made.{Made}
+use Rattle.turns.specs.model.Turn.{turn-of, made-by, turn-result, Given}
+use Rattle.turns.proofs.Turned.{turn-is, its-own}
 
 -- ---- scripted start
 
@@ -53,6 +59,15 @@ module _ (c : Config) (x : List ℕ) (a : Answer) (e : a ≡ started c) where
 
 -- ---- turn
 
+-- the number that the journal's test gives, and the calls that it counts
+pub tested-number : (r : Session) (j : List ℕ) (t : Tested) → t ≡ tested r j → t .refusal ≡ test-refusal r j
+unfolding tested
+tested-number r j t e = ap (λ (t : Tested). t .refusal) e
+
+pub tested-calls : (r : Session) (j : List ℕ) → test-refusal r j ≡ 0 → tested r j .calls ≡ tabulate (progress-in r j) 0 33
+unfolding tested
+tested-calls r j free = rw free
+
 module _ (r : Session) (j x : List ℕ) (p : ℕ) where
   -- a refused turn: the number, the record handed in, and the journal as it was
   pub record Kept (n : ℕ) : Type 0 where
@@ -63,46 +78,67 @@ module _ (r : Session) (j x : List ℕ) (p : ℕ) where
   unfolding turned turn-journal
   turn-kept n e h = record { answer = rw (← e, ne-eqb n 0 h); journal = rw (← e, ne-eqb n 0 h) }
 
-  -- 10 or 15
-  pub turn-lent : (n : ℕ) → n ≡ lent-refusal r (length j) → (n ≡ 0 → ⊥) → Kept n
+  -- 10, 15 or 16
+  pub turn-untested : (n : ℕ) → n ≡ test-refusal r j → (n ≡ 0 → ⊥) → Kept n
   unfolding turn-refusal
-  turn-lent zero e h = absurd (h refl)
-  turn-lent (suc n) e h = turn-kept (suc n) (rw (← e)) h
+  turn-untested zero e h = absurd (h refl)
+  turn-untested (suc n) e h = turn-kept (suc n) (rw (← e)) h
 
-  module _ (free : lent-refusal r (length j) ≡ 0) where
+  module _ (free : test-refusal r j ≡ 0) where
     pub turn-unscripted : scripts-ok (r .state .t) x ≡ false → Kept 19
     unfolding turn-refusal
     turn-unscripted e = turn-kept 19 (rw (free, e)) (λ z. absurd (omega arith))
 
-    module _ (ok : scripts-ok (r .state .t) x ≡ true) (m : Move) (is : m ≡ turn-made r j x p) where
+    module _ (ok : scripts-ok (r .state .t) x ≡ true) where
       its-number : turn-refusal r j x p ≡ move-refusal r j (turn-made r j x p)
       unfolding turn-refusal
       its-number = rw (free, ok)
 
-      move-is : move-of p (m .action) (m .operand) ≡ turn-made r j x p
-      move-is = ap (λ (a : Move). move-of p (a .action) (a .operand)) is ∙ its-own (shown r) (progress-in r j) x p
-
-      pub turn-answer : (a : Answer) → a ≡ moved r j (move-of p (m .action) (m .operand)) → a ≡ turned r j x p
+      -- a turn is its move
+      turn-moved : moved r j (turn-made r j x p) ≡ turned r j x p
       unfolding moved turned
-      turn-answer a e = e ∙ ap (moved r j) move-is ∙ rw its-number (by (eqb (move-refusal r j (turn-made r j x p)) 0) _ _)
+      turn-moved = rw its-number (by (eqb (move-refusal r j (turn-made r j x p)) 0) _ _)
         where
           by : (b : Bool) (n : ℕ) (s : Session) →
               _≡_ {A = Answer} (record { refusal = n; session = choose b s r }) (record { refusal = n; session = choose b (choose b s r) r })
           by true n s = refl
           by false n s = refl
 
-      pub turn-written : (l : List ℕ) → l ≡ journal-after r j (move-of p (m .action) (m .operand)) → l ≡ turn-journal r j x p
+      turn-written : journal-after r j (turn-made r j x p) ≡ turn-journal r j x p
       unfolding journal-after turn-journal
-      turn-written l e = e ∙ ap (journal-after r j) move-is ∙ rw its-number (by (eqb (move-refusal r j (turn-made r j x p)) 0) _)
+      turn-written = rw its-number (by (eqb (move-refusal r j (turn-made r j x p)) 0) _)
         where
           by : (b : Bool) (k : List ℕ) → choose b k j ≡ choose b (choose b k j) j
           by true k = refl
           by false k = refl
 
--- the calls that the journal's test counts
-pub tested-calls : (r : Session) (j : List ℕ) → lent-refusal r (length j) ≡ 0 → tested r j .calls ≡ tabulate (progress-in r j) 0 33
-unfolding tested
-tested-calls r j free = rw free
+      -- the code's turn, with the calls that the test counted
+      module _ (size : Sized (r .state)) (calls : List ℕ) (are : calls ≡ tested r j .calls) (t : Made) (is : t ≡ turn-result (r .state) calls x p) where
+        abbrev a : Move
+        a = turn-made r j x p
+
+        made-is : t ≡ made-by (r .state) calls p a
+        unfolding turn-result
+        made-is =
+            let keeps = state-right r (lent-passed r (length j) (test-passed r j free .0) .1) in
+            is ∙ ap (made-by (r .state) calls p)
+            (ap (λ (l : List ℕ). turn-of (processor-of (r .state) p) l x p) (are ∙ tested-calls r j free) ∙ turn-is (r .state) size keeps p (progress-in r j) x)
+
+        move-is : move-of p (t .action) (t .operand) ≡ a
+        move-is = ap (λ (m : Made). move-of p (m .action) (m .operand)) made-is ∙ its-own (shown r) (progress-in r j) x p
+
+        moved-is : record { refusal = t .refusal; state = t .state } ≡ moved-of (r .state) (a .processor) (a .action) (a .operand)
+        moved-is =
+            ap (λ (m : Made). record { refusal = m .refusal; state = m .state }) made-is ∙
+            ap (λ (m : Move). moved-of (r .state) (m .processor) (m .action) (m .operand)) (its-own (shown r) (progress-in r j) x p)
+
+        pub turn-answer : record { refusal = t .refusal; session = record { state = t .state; initial = r .initial } } ≡ turned r j x p
+        turn-answer = made-answer r j a size free (record { refusal = t .refusal; state = t .state }) moved-is ∙ turn-moved
+
+        pub turn-journaled : choose (eqb (t .refusal) 0) (stored j (r .state .applied) (move-of p (t .action) (t .operand))) j ≡ turn-journal r j x p
+        turn-journaled =
+            ap (λ (m : Move). choose (eqb (t .refusal) 0) (stored j (r .state .applied) m) j) move-is ∙
+            made-journal r j a size free (record { refusal = t .refusal; state = t .state }) moved-is ∙ turn-written
 
 -- ---- class
 
@@ -176,7 +212,7 @@ module _ (r : Session) (j x ps answers pictures : List ℕ) where
     number-is = rw (free, room)
 
     test-is : tested r j .refusal ≡ mismatched
-    unfolding tested
+    unfolding tested test-refusal
     test-is = rw free
 
     -- 16
@@ -204,7 +240,8 @@ module _ (r : Session) (j x ps answers pictures : List ℕ) where
         class-none = number-is ∙ rw (replays-true, ok)
 
         pub calls-are : tested r j .calls ≡ tabulate (progress-in r j) 0 33
-        calls-are = tested-calls r j free
+        unfolding tested
+        calls-are = tested-calls r j same
 
 -- what the turns gave is what the class answers
 pub class-given : (r : Session) (j x ps answers pictures : List ℕ) → class-refusal r j x ps answers pictures ≡ 0 → (s : Record) (j′ answers′ pictures′ : List ℕ) →

@@ -13,7 +13,7 @@ use lib.Seq.{take-suc, take-all, length-take-le}
 use borrow.Author.Tests.{eqb-true, ltb-false, not-false}
 use Rattle.state.specs.declared.State.{State as Record}
 use Rattle.state.specs.declared.Session.{Session}
-use Rattle.state.specs.Association.{encode, decode}
+use Rattle.state.specs.Association.{encode}
 use Rattle.state.specs.Rules.{session-ok}
 use Rattle.state.specs.Record.{Sized}
 use Rattle.shown.proofs.Encode.{encode-decode}
@@ -26,21 +26,21 @@ use Rattle.reference.specs.Step.{Move, move-of}
 use Rattle.reference.specs.Cause.{cause, accepted}
 use Rattle.reference.specs.Picture.{picture}
 use Rattle.reference.specs.Script.{turned, turn-cause, turn-after, class-moves, class-answers, class-pictures}
-use Rattle.reference.specs.Session.{bytes, lacks-room, picture-size, replays, state-of}
-use Rattle.reference.proofs.Tests.{passed, both-left, both-right}
-use Rattle.reference.proofs.Same.{same-state-exact}
+use Rattle.reference.specs.Session.{bytes, lacks-room, picture-size, state-of}
+use Rattle.reference.proofs.Tests.{passed}
 use Rattle.reference.proofs.Laws.{applied-is}
 use Rattle.reference.proofs.Legal.{legal}
 use Rattle.reference.proofs.Moves.{accepted-length}
 use Rattle.reference.proofs.Script.{accepted-turn, accepted-class, moves-more, answers-more, pictures-more, answers-length}
 use Rattle.session.specs.Contract.{config-of, lent-refusal, standing, matches, progress-in, written-at}
-use Rattle.session.proofs.Answers.{lent-passed}
-use Rattle.session.proofs.Undone.{config-right, applied-most, state-right}
+use Rattle.session.specs.model.Replay.{stored}
+use Rattle.session.proofs.Answers.{or-passed, lent-passed}
+use Rattle.session.proofs.Undone.{state-right}
 use Rattle.session.proofs.Shown.{picture-long, pictured}
 use Rattle.session.proofs.Shown as reached
 use Rattle.session.proofs.Counted.{calls-of}
 use Rattle.session.proofs.Standing.{length-bytes, bytes-snoc, sets-written}
-use Rattle.session.proofs.Holding.{Agree, or-passed, whole-is}
+use Rattle.session.proofs.Holding.{Agree, agrees, whole-is}
 use Rattle.turns.specs.declared.made.Made.{Made}
 use Rattle.turns.specs.Contract.{class-refusal}
 use Rattle.turns.specs.model.Turn.{turn-result, Given}
@@ -81,10 +81,9 @@ module _ (r : Session) (size : Sized (r .state)) (j x ps a b : List ℕ) (none :
 
   -- what the causes that are not there say
   pub record Fine : Type 0 where
-    pub enough : 12000 ≤ length j
     pub record-ok : session-ok r ≡ true
     pub room : (length ps ≤ length a) × (length ps * picture-size c ≤ length b)
-    pub replays-it : matches r j ≡ true
+    pub agree : Agree r j
 
   pub fine : Fine
   unfolding class-refusal
@@ -92,27 +91,18 @@ module _ (r : Session) (size : Sized (r .state)) (j x ps a b : List ℕ) (none :
       let first = or-passed (lent-refusal r (length j)) _ none in
       let second = passed (lacks-room c (length ps) a b) _ _ (first .1) in
       let third = passed (not (matches r j)) _ _ (second .1) in
-      let lent = lent-passed r (length j) (first .0) in
       let both = neither (ltb (length a) (length ps)) (ltb (length b) (length ps * picture-size c)) (second .0) in
       record {
-        enough = lent .0;
-        record-ok = lent .1;
+        record-ok = lent-passed r (length j) (first .0) .1;
         room = (ltb-false (length a) (length ps) (both .0), ltb-false (length b) (length ps * picture-size c) (both .1));
-        replays-it = not-false _ (third .0);
+        agree = agrees r j (first .0) (not-false _ (third .0));
       }
-
-  right : config-cause c ≡ 0
-  right = config-right r size (fine .record-ok)
 
   pub agree : Agree r j
-  unfolding matches replays decode
-  agree =
-      let e = fine .replays-it in
-      record {
-        top = applied-most r size (fine .record-ok);
-        legal = both-left (accepted (start c) ms) _ e;
-        state = sym (same-state-exact .only _ _ (both-right (accepted (start c) ms) _ e));
-      }
+  agree = fine .agree
+
+  right : config-cause c ≡ 0
+  right = agree .config
 
   -- the moves that stand after i turns
   abbrev pub made : ℕ → List Move
@@ -136,9 +126,9 @@ module _ (r : Session) (size : Sized (r .state)) (j x ps a b : List ℕ) (none :
       record {
         few = omega arith;
         place = omega arith;
-        state = sym (encode-decode (r .state) size (state-right r size (fine .record-ok))) ∙ ap encode (agree .state);
+        state = sym (encode-decode (r .state) size (state-right r (fine .record-ok))) ∙ ap encode (agree .state);
         calls-are = e;
-        journal = with-front-same j (bytes ms) (ap (λ (n : ℕ). take n j) (length-bytes ms) ∙ whole-is r j agree (fine .enough));
+        journal = with-front-same j (bytes ms) (ap (λ (n : ℕ). take n j) (length-bytes ms) ∙ whole-is r j agree);
         numbers = refl;
         shows = refl;
       }
@@ -156,7 +146,7 @@ module _ (r : Session) (size : Sized (r .state)) (j x ps a b : List ℕ) (none :
 
   module _ (i at : ℕ) (s : Record) (calls j′ a′ b′ : List ℕ) (g : Going i at s calls j′ a′ b′) where
     journal-size : length j′ ≡ length j
-    journal-size = ap length (g .journal) ∙ with-front-length j (bytes (made i)) (omega (arith, length-bytes (made i), few-moves i, fine .enough))
+    journal-size = ap length (g .journal) ∙ with-front-length j (bytes (made i)) (omega (arith, length-bytes (made i), few-moves i, agree .size))
 
     numbers-size : length a′ ≡ length a
     numbers-size = ap length (g .numbers) ∙ with-front-length a (class-answers c x ms (take i ps)) (omega (arith, numbers-length i (g .few), fine .room .0))
@@ -207,16 +197,13 @@ module _ (r : Session) (size : Sized (r .state)) (j x ps a b : List ℕ) (none :
         unfolding encode
         applied = ap (λ (q : Record). q .applied) (g .state) ∙ applied-is c (made i)
 
-        abbrev stored : List ℕ → ℕ → Move → List ℕ
-        stored l n q = set (set (set l (3 * n) (q .processor)) (3 * n + 1) (q .action)) (3 * n + 2) (q .operand)
-
         -- an accepted move joins the journal
         joined : (u : Bool) → eqb (turn-cause c x (made i) p) 0 ≡ u → choose u (stored j′ (length (made i)) m) j′ ≡ with-front j (bytes (choose u (made i ++ m ∷ []) (made i)))
         unfolding written-at
         joined true z =
             let n : ℕ = length (made i) in
             let free : cause (state-of c (made i)) m ≡ 0 = eqb-true _ 0 z in
-            let inside : 3 * n + 3 ≤ length j′ = omega (arith, legal (state-of c (made i)) m free .room, applied-is c (made i), journal-size, fine .enough) in
+            let inside : 3 * n + 3 ≤ length j′ = omega (arith, legal (state-of c (made i)) m free .room, applied-is c (made i), journal-size, agree .size) in
             sets-written j′ n m inside ∙
             (λ d. take (3 * n) (g .journal d) ++ bytes (m ∷ []) ++ drop (3 * n + 3) (g .journal d)) ∙
             ap (λ (k : ℕ). take (3 * n) (with-front j (bytes (made i))) ++ bytes (m ∷ []) ++ drop (3 * n + k) (with-front j (bytes (made i)))) (sym (length-bytes (m ∷ []))) ∙

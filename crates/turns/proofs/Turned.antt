@@ -6,7 +6,6 @@ use mathlib.Core.List.{List, [], _∷_, _++_}
 use mathlib.Core.Path.{_≡_, refl, sym, ap, _∙_}
 use native.Mathlib.Omega.{arith}
 use lib.Dec.{eqb, ltb}
-use lib.ListN.{getD}
 use borrow.Author.Tests.{eqb-true}
 use Rattle.state.specs.declared.Processor.{Processor}
 use Rattle.state.specs.declared.State.{State as Record}
@@ -52,23 +51,12 @@ module _ (r : Record) (z : Sized r) (k : state-ok r ≡ true) (p : ℕ) where
           omega (arith, f .t-range, processor-says r (processor-of r p) (f .processor p (range-true 1 (r .p) p e)) .1)
       by false e = omega (arith, ap (λ (x : Processor). x .current) (facts r z (state-kept r k) .no-processor p e))
 
-  -- the counts matter at App only
-  pub turn-is : (made : ℕ → ℕ) (calls x : List ℕ) → (processor-of r p .position ≡ 0 → calls ≡ tabulate made 0 33) →
-      turn-of (processor-of r p) calls x p ≡ turn-move (decode r) made x p
+  pub turn-is : (made : ℕ → ℕ) (x : List ℕ) → turn-of (processor-of r p) (tabulate made 0 33) x p ≡ turn-move (decode r) made x p
   unfolding turn-move
-  turn-is made calls x h =
-      by (eqb (processor-of r p .position) 0) refl ∙
+  turn-is made x =
+      ap (λ (n : ℕ). choose (eqb (processor-of r p .position) 0) (next-call x p (processor-of r p .current) n) (move-of p 0 0))
+      (tabulate-read made 33 (processor-of r p .current) 0 (λ l. absurd (omega (arith, small)))) ∙
       ap (λ (q : Processor). choose (eqb (q .position) 0) (next-call x p (q .current) (made (q .current))) (move-of p 0 0)) registers
-    where
-      by : (b : Bool) → eqb (processor-of r p .position) 0 ≡ b →
-          choose b (next-call x p (processor-of r p .current) (getD calls (processor-of r p .current) 0)) (move-of p 0 0) ≡
-          choose b (next-call x p (processor-of r p .current) (made (processor-of r p .current))) (move-of p 0 0)
-      by true e =
-          let read : getD calls (processor-of r p .current) 0 ≡ made (processor-of r p .current) =
-          ap (λ (l : List ℕ). getD l (processor-of r p .current) 0) (h (eqb-true (processor-of r p .position) 0 e)) ∙
-          tabulate-read made 33 (processor-of r p .current) 0 (λ l. absurd (omega (arith, small))) in
-          ap (λ (n : ℕ). next-call x p (processor-of r p .current) n) read
-      by false e = refl
 
 -- a turn's move is one of its processor
 pub its-own : (s : State) (made : ℕ → ℕ) (x : List ℕ) (p : ℕ) → move-of p (turn-move s made x p .action) (turn-move s made x p .operand) ≡ turn-move s made x p
@@ -117,7 +105,7 @@ module _ (c : Config) (right : config-cause c ≡ 0) (ms : List Move) (ok : acce
 
   move-is : turn-of (processor-of (encode s) p) (calls-of c ms) x p ≡ a
   move-is =
-      turn-is (encode s) (encode-sized s) (state-right c ms right ok) p (progress (start c) ms) (calls-of c ms) x (λ e. refl) ∙
+      turn-is (encode s) (encode-sized s) (state-right c ms right ok) p (progress (start c) ms) x ∙
       ap (λ (e : State). turn-move e (progress (start c) ms) x p) (state-back c ms right ok)
 
   made-is : moved-of (encode s) p (a .action) (a .operand) ≡ made-of s a

@@ -3,20 +3,15 @@ mod made;
 mod sequence;
 
 ghost use mathlib.Core.Path.{_≡_};
-ghost use lib.ListN.{length};
-ghost use Rattle.script.specs.Association.{move-in};
-ghost use Rattle.session.specs.Contract.{table, lent-refusal};
-ghost use Rattle.turns.specs.Contract.{scripted, turn-made, turned, turn-journal, classed, class-journal, answers-after, pictures-after};
-use crate::made::turn_move;
+ghost use Rattle.session.specs.Contract.{table};
+ghost use Rattle.turns.specs.Contract.{scripted, turned, turn-journal, classed, class-journal, answers-after, pictures-after};
+use crate::made::make_turn;
 use crate::sequence::take_turns;
 use crate::sequence::unfit;
-use script::Move;
 use script::scripts_ok;
 use session::Answer;
-use session::lent;
-use session::make_move;
+use session::journal::keep_move;
 use session::test_journal;
-use state::Position;
 use state::Session;
 use state::State;
 use state::refusal::Refusal;
@@ -40,28 +35,13 @@ pub fn start(p: u8, t: u8, m: u8, b: u8, stealing: u8, scripts: &[u8]) -> Answer
     }
 }
 
-// The move of processor p's turn: at App its thread's calls are counted in the journal.
-fn next_move(session: Session, journal: &[u8], scripts: &[u8], p: u8) -> Move
-    requires { ⌜ lent-refusal session (length (now journal)) ≡ 0 ⌝ }
-    ensures { λ r. ⌜ move-in r ≡ turn-made session (now (journal .entry)) (now (scripts .entry)) p ⌝ }
-{
-    let state = session.state;
-    let r = state.processor(p);
-    let mut calls = [0u16; 33];
-    if r.position == Position::APP {
-        let found = test_journal(session, journal);
-        let counted = found.calls;
-        calls = counted;
-    }
-    turn_move(r, calls, scripts, p)
-}
-
-// A turn of processor p. Accepted, record and journal are those after its move; refused, both stay.
+// A turn of processor p: the journal's test counts each thread's calls. Accepted, record and journal are those after its move; refused, both stay.
 pub fn turn(session: Session, journal: &mut [u8], scripts: &[u8], p: u8) -> Answer
     ensures answer { λ r. ⌜ r ≡ turned session (now (journal .entry)) (now (scripts .entry)) p ⌝ }
     ensures written { λ r. ⌜ now (journal .exit) ≡ turn-journal session (now (journal .entry)) (now (scripts .entry)) p ⌝ }
 {
-    let first = lent(session, journal.len());
+    let found = test_journal(session, journal);
+    let first = found.refusal;
     if first != 0 {
         return Answer {
             refusal: first,
@@ -71,8 +51,22 @@ pub fn turn(session: Session, journal: &mut [u8], scripts: &[u8], p: u8) -> Answ
     let state = session.state;
     let scripted = scripts_ok(state.t, scripts);
     if scripted {
-        let a = next_move(session, journal, scripts, p);
-        return make_move(session, journal, p, a.action, a.operand);
+        let calls = found.calls;
+        let done = make_turn(state, calls, scripts, p);
+        keep_move(
+            journal,
+            done.refusal,
+            state.applied,
+            p,
+            done.action,
+            done.operand,
+        );
+        let state = done.state;
+        let initial = session.initial;
+        return Answer {
+            refusal: done.refusal,
+            session: Session { state, initial },
+        };
     }
     Answer {
         refusal: Refusal::BAD_SCRIPT,

@@ -20,7 +20,7 @@ pub(crate) struct Made {
 }
 
 // The move of processor p, which is r: at App the next call of its current thread, elsewhere go.
-pub(crate) fn turn_move(r: Processor, calls: [u16; 33], scripts: &[u8], p: u8) -> Move
+fn turn_move(r: Processor, calls: [u16; 33], scripts: &[u8], p: u8) -> Move
     ensures { λ m. ⌜ move-in m ≡ turn-of r calls (now (scripts .entry)) p ⌝ }
 {
     let k = r.current;

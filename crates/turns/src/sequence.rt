@@ -1,17 +1,15 @@
 // A class: turn after turn on a session, with each turn's answer and picture written into lent buffers.
 ghost use mathlib.Core.Path.{_≡_};
 ghost use mathlib.Core.Bool.{_||_};
-ghost use Prim.Native.Nat.{_+_, _*_};
-ghost use lib.Dec.{eqb, ltb};
-ghost use lib.ListN.{set};
-ghost use Rattle.reference.specs.Lists.{choose};
+ghost use Prim.Native.Nat.{_*_};
+ghost use lib.Dec.{ltb};
 ghost use Rattle.reference.specs.Refusal.{too-short, refuse};
 ghost use Rattle.reference.specs.Session.{picture-size};
 ghost use Rattle.session.specs.Contract.{config-of, or-later, lent-refusal};
 ghost use Rattle.turns.specs.model.Turn.{Ready, Given};
 use crate::made::make_turn;
 use picture::writer::put;
-use session::journal::write_move;
+use session::journal::keep_move;
 use session::lent;
 use state::Session;
 use state::State;
@@ -36,15 +34,6 @@ pub(crate) fn unfit(
     let size = picture_bytes(state.p, state.t, state.m);
     let full = (answers < n) | (pictures / size < n);
     if full { Refusal::TOO_SHORT } else { 0 }
-}
-
-// An accepted move joins the journal's n moves.
-pub(crate) fn keep_move(journal: &mut [u8], refusal: u8, n: u16, p: u8, a: u8, o: u8)
-    ensures { λ x. ⌜ now (journal .exit) ≡ choose (eqb refusal 0) (set (set (set (now (journal .entry)) (3 * n) p) (3 * n + 1) a) (3 * n + 2) o) (now (journal .entry)) ⌝ }
-{
-    if refusal == 0 {
-        write_move(journal, n, p, a, o);
-    }
 }
 
 // The turns one after the other, where nothing refuses the class. Pictures are as long as the record's sizes say.

@@ -11,7 +11,7 @@ returns : tie.Need-returns
 returns c = let e = c .before .before in let n = e .before .before .before .before .before in let t = n .before .before .before in then _ _ _ _ _ (n .put-number .ensures) (e .put .ensures) ∙ ap (add _) (chart-refused _ _ _ (t .test-journal .ensures) (n .before .before .if1 .taken))
 
 returns-2 : tie.Need-returns-2
-returns-2 c = let e = c .before .before in let m = e .before .before .before .before .before in let h = m .before .before .before .before in let s = h .before .before .before in let t = s .before .before .before in then _ _ _ _ _ (then _ _ _ _ _ (h .put-heading .ensures) (m .put-moves .ensures)) (e .put2 .ensures) ∙ ap (add _) (chart-taken _ _ _ (t .test-journal .ensures) (s .before .before .if1 .left) _ (s .start .ensures))
+returns-2 c = let e = c .before .before in let m = e .before .before .before .before .before in let h = m .before .before .before .before in let s = h .before .before in let t = s .before .before .before in then _ _ _ _ _ (then _ _ _ _ _ (h .put-heading .ensures) (m .put-moves .ensures)) (e .put2 .ensures) ∙ ap (add _) (chart-taken _ _ _ (t .test-journal .ensures) (s .before .before .if1 .left) _ (s .start .ensures))
 
 pub chart-spec : {M : Type 1} → statement M
 chart-spec =

@@ -1,36 +1,42 @@
 -- `turns::turn` meets its contract.
 -- Assumes nothing.
-use mathlib.Core.Path.{sym, _∙_}
+use mathlib.Core.Path.{refl, sym, ap, _∙_}
 use borrow.Author.Needs.{needs}
-use Rattle.script.specs.Association.{move-in}
-use Rattle.turns.proofs.Answers.{turn-lent, turn-unscripted, turn-answer, turn-written}
+use Rattle.state.proofs.Sized.{session-sized}
+use Rattle.session.specs.declared.Tested.{Tested}
+use Rattle.turns.proofs.Answers.{tested-number, turn-untested, turn-unscripted, turn-answer, turn-journaled}
 use Rattle.turns.proofs.turn.Statement.{statement}
 use Rattle.turns.proofs.turn.Tie as tie
 
 returns : tie.Need-returns
 returns c =
-    let a = c .before .before .before .before .args in
-    let k = turn-lent (a .session) (a .journal .now) (a .scripts .now) (a .p) (c .before .lent .result) (c .before .lent .ensures) (c .if1 .taken) in
+    let a = c .before .before .before .before .before .args in
+    let test = c .before .test-journal in
+    let k = turn-untested (a .session) (a .journal .now) (a .scripts .now) (a .p) (test .result .refusal) (tested-number _ _ (test .result) (test .ensures)) (c .if1 .taken) in
     (k .answer, k .journal)
 
 returns-2 : tie.Need-returns-2
 returns-2 c =
-    let made = c .before .before .make-move in
-    let next = c .before .before .before .before .next-move in
-    let i = c .before .before .before .before .before .before in
-    let f = i .before .before .before in
-    let a = f .before .before .before .before .args in
-    let free = sym (f .before .lent .ensures) ∙ f .if1 .left in
-    let ok = sym (i .before .scripts-ok .ensures) ∙ i .if2 .taken in (
-      turn-answer (a .session) (a .journal .now) (a .scripts .now) (a .p) free ok (move-in (next .result)) (next .ensures) (made .result) (made .ensures .0),
-      turn-written (a .session) (a .journal .now) (a .scripts .now) (a .p) free ok (move-in (next .result)) (next .ensures) _ (made .ensures .1),
+    let done = c .before .before .before .before .before .make-turn in
+    let i = c .before .before .before .before .before .before .before in
+    let g = i .before .before .before in
+    let start = g .before .before .before .before .before in
+    let a = start .args in
+    let test = g .before .test-journal in
+    let free = sym (tested-number _ _ (test .result) (test .ensures)) ∙ g .if1 .left in
+    let ok = sym (i .before .scripts-ok .ensures) ∙ i .if2 .taken in
+    let size = session-sized (start .good .0) in
+    let calls = ap (λ (t : Tested). t .calls) (test .ensures) in (
+      turn-answer (a .session) (a .journal .now) (a .scripts .now) (a .p) free ok size _ calls (done .result) (done .ensures),
+      c .before .before .before .keep-move .ensures ∙ turn-journaled (a .session) (a .journal .now) (a .scripts .now) (a .p) free ok size _ calls (done .result) (done .ensures),
     )
 
 returns-3 : tie.Need-returns-3
 returns-3 c =
-    let f = c .before .before .before in
-    let a = f .before .before .before .before .args in
-    let free = sym (f .before .lent .ensures) ∙ f .if1 .left in
+    let g = c .before .before .before in
+    let a = g .before .before .before .before .before .args in
+    let test = g .before .test-journal in
+    let free = sym (tested-number _ _ (test .result) (test .ensures)) ∙ g .if1 .left in
     let k = turn-unscripted (a .session) (a .journal .now) (a .scripts .now) (a .p) free (sym (c .before .scripts-ok .ensures) ∙ c .if2 .left) in
     (k .answer, k .journal)
 
@@ -39,10 +45,12 @@ turn-spec =
     tie.close
     (tie.spec
     (λ c κs. search needs)
+    (λ c. search needs)
     returns
     (λ c κs. search needs)
     (λ c κs. search needs)
     (λ c κs. search needs)
     (λ c. search needs)
     returns-2
+    (λ c. search needs)
     returns-3)

@@ -34,7 +34,7 @@ same-state-requires c κs =
     let size = session-sized (t .good .0) in
     let f = first .run .ensures .0 ∙ ap (λ (s : State). run-of s (take (3 * t .args .k) (t .args .journal .now))) (start .start .ensures) in (
       whole-right r size (t .args .journal .now) (t .pre .0) (t .args .k) (t .pre .1) (first .run .result) f (t .args .calls .now) (test .if1 .taken) (second .run2 .result) (second .run2 .ensures .0) (c .before .if2 .taken),
-      state-right r size (lent-passed _ _ (t .pre .0) .1),
+      state-right r (lent-passed _ _ (t .pre .0) .1),
     )
 
 returns : tie.Need-returns

@@ -16,7 +16,7 @@ use Rattle.picture.proofs.writer.put.Reads as put-reads
 use Rattle.turns.specs.Contract.{class-refusal}
 use Rattle.turns.proofs.Loop.{Going, going-start, going-more, going-end, Rooms, rooms}
 use Rattle.state.proofs.layout.picture_bytes.Reads as picture-bytes-reads
-use Rattle.turns.proofs.sequence.keep_move.Reads as keep-move-reads
+use Rattle.session.proofs.journal.keep_move.Reads as keep-move-reads
 use Rattle.turns.proofs.made.make_turn.Reads as make-turn-reads
 use Rattle.turns.proofs.sequence.take_turns.Statement.{statement}
 use Rattle.turns.proofs.sequence.take_turns.Reads as reads

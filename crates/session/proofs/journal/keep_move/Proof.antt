@@ -1,9 +1,9 @@
--- `turns::sequence::keep_move` meets its contract.
+-- `session::journal::keep_move` meets its contract.
 -- Assumes nothing.
 use borrow.Author.Needs.{needs}
 use borrow.Author.Tests.{eq-eqb, ne-eqb}
-use Rattle.turns.proofs.sequence.keep_move.Statement.{statement}
-use Rattle.turns.proofs.sequence.keep_move.Tie as tie
+use Rattle.session.proofs.journal.keep_move.Statement.{statement}
+use Rattle.session.proofs.journal.keep_move.Tie as tie
 
 returns : tie.Need-returns
 returns c =
