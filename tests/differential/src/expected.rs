@@ -1,12 +1,13 @@
 //! What the library is to answer, worked out by the package `independent`.
 
 use crate::{Ahead, Replayed, Table};
+use independent::journal::JOURNAL;
 use independent::machine::{Config, State};
 use independent::marks;
 use independent::picture;
 use independent::record::Snapshot;
 use independent::script;
-use independent::session::{self, JOURNAL};
+use independent::session;
 
 pub fn config([p, t, m, b]: Table) -> Config {
     Config::new(p, t, m, b)

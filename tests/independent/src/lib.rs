@@ -1,6 +1,6 @@
-//! An independent implementation of the hand-off machine of document 01, of
-//! scripted threads (document 02, No. 7), of marks (No. 12) and of a ready queue
-//! for each processor (No. 13).
+//! An independent implementation of the hand-off machine of document 01, of the
+//! journal's test at each call (document 02, No. 6), of scripted threads (No. 7),
+//! of marks (No. 12) and of a ready queue for each processor (No. 13).
 //!
 //! Terms of document 01 and the names used here: loaded is `current`, hand is
 //! `transit`, rank is `sequence`, seen is `observed`, standing moves are
@@ -12,6 +12,7 @@
 //! - `machine`: the state with plain queues, the start and the lines.
 //! - `record`: the state as tables with chains, its rules, both conversions.
 //! - `picture`: a snapshot's bytes, written and read.
+//! - `journal`: a lent journal's replay and test.
 //! - `session`: the calls on a session record and a lent journal.
 //! - `script`: scripts, turns and classes.
 //! - `marks`: marks for handed-in pictures.
@@ -31,6 +32,7 @@
 pub mod chains;
 pub mod chart;
 pub mod course;
+pub mod journal;
 pub mod lines;
 pub mod machine;
 pub mod marks;

@@ -1,11 +1,12 @@
 //! The line program: `start P T M B`, which may have a fifth number, `move p a o`, `back`, `show`;
 //! anything else gets `?`.
 
+use crate::journal::JOURNAL;
 use crate::lines::{self, number, words, LineProgram};
 use crate::machine::{Config, Move};
 use crate::picture;
 use crate::record::Record;
-use crate::session::{self, JOURNAL};
+use crate::session;
 
 /// A line's command.
 #[derive(Clone, Copy, PartialEq, Eq, Debug)]

@@ -4,6 +4,7 @@
 use crate::machine::{
     sizes_in_range, Config, Life, Mutex, Position, Processor, State, Token, MOST_MOVES,
 };
+use crate::Answer;
 use std::collections::VecDeque;
 
 /// Places of a thread.
@@ -335,6 +336,15 @@ impl Record {
     pub fn state(&self) -> Option<State> {
         let born_fits = (1..=self.snapshot.threads).contains(&self.born);
         self.snapshot.state().filter(|_| born_fits)
+    }
+
+    /// The answer of a call on this record: the record of the state that it gives, or its refusal
+    /// with this one.
+    pub fn answer(&self, after: Result<State, u8>) -> Answer<Record> {
+        match after {
+            Ok(state) => Answer::accepted(Record::of(&state, self.born)),
+            Err(number) => Answer::refused(number, *self),
+        }
     }
 
     pub fn config(&self) -> Config {

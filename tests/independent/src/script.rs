@@ -5,10 +5,11 @@
 //! threads, thread 1 first. A thread's place in its script, here its progress, is the number of
 //! calls that it has made among the applied moves.
 
+use crate::journal::{self, Replay};
 use crate::machine::{Config, Move, Position, State, CREATE, EXIT, GO, LOCK};
 use crate::picture;
 use crate::record::{Record, Snapshot};
-use crate::session::{self, JOURNAL};
+use crate::session;
 use crate::Answer;
 
 /// The bytes of a script.
@@ -63,80 +64,16 @@ pub fn script(calls: &[Call]) -> [u8; SCRIPT] {
     bytes
 }
 
-/// How many calls each thread has made.
-#[derive(Clone, PartialEq, Eq, Debug)]
-pub struct Progress {
-    made: Vec<u16>,
-}
-
-impl Progress {
-    fn start(threads: u8) -> Progress {
-        Progress { made: vec![0; usize::from(threads)] }
-    }
-
-    /// Of the first `count` moves of a journal, up to the first that is refused.
-    pub fn of(config: Config, journal: &[u8], count: u16) -> Progress {
-        Run::replay(config, journal, count).progress
-    }
-
-    pub fn thread(&self, thread: u8) -> u16 {
-        self.made[usize::from(thread) - 1]
-    }
-}
-
 /// The move of a turn for processor p, whether it is there or not.
-pub fn next_move(state: &State, progress: &Progress, scripts: &Scripts, p: u8) -> Move {
-    let here = usize::from(p).checked_sub(1).and_then(|at| state.processors.get(at));
+fn next_move(now: &Replay, scripts: &Scripts, p: u8) -> Move {
+    let here = usize::from(p).checked_sub(1).and_then(|at| now.state.processors.get(at));
     match here {
         Some(here) if here.position == Position::App => {
             let thread = here.current;
-            let [action, operand] = scripts.next_call(thread, progress.thread(thread));
+            let [action, operand] = scripts.next_call(thread, now.progress.thread(thread));
             [p, action, operand]
         }
         _ => [p, GO, 0],
-    }
-}
-
-/// A state with the progress of its threads, both carried along.
-struct Run {
-    state: State,
-    progress: Progress,
-}
-
-impl Run {
-    fn start(config: Config) -> Run {
-        Run { state: State::start(config), progress: Progress::start(config.threads) }
-    }
-
-    /// After the first `count` moves of a journal, or after those before the first refused one.
-    fn replay(config: Config, journal: &[u8], count: u16) -> Run {
-        let mut run = Run::start(config);
-        for made in journal.chunks_exact(3).take(usize::from(count)) {
-            if run.make_move([made[0], made[1], made[2]]).is_err() {
-                break;
-            }
-        }
-        run
-    }
-
-    fn make_move(&mut self, made: Move) -> Result<(), u8> {
-        let [p, action, _] = made;
-        let before = self.state.processors.get(usize::from(p).wrapping_sub(1));
-        let thread = before.map_or(0, |here| here.current);
-        self.state.try_move(made)?;
-        if action != GO {
-            self.progress.made[usize::from(thread) - 1] += 1;
-        }
-        Ok(())
-    }
-
-    /// Takes a turn for processor p and notes an accepted move in the journal.
-    fn take_turn(&mut self, journal: &mut [u8], scripts: &Scripts, p: u8) -> Result<(), u8> {
-        let made = next_move(&self.state, &self.progress, scripts, p);
-        let at = 3 * usize::from(self.state.applied);
-        self.make_move(made)?;
-        journal[at..at + 3].copy_from_slice(&made);
-        Ok(())
     }
 }
 
@@ -149,20 +86,18 @@ pub fn start(config: Config, scripts: &[u8]) -> Answer<Record> {
     begun
 }
 
-/// Takes a turn for processor p; refused by 10, 15, 19, then as its move is, with the record
+/// Takes a turn for processor p; refused by 10, 15, 16, 19, then as its move is, with the record
 /// handed in, the journal unchanged.
 pub fn turn(record: &Record, journal: &mut [u8], scripts: &[u8], p: u8) -> Answer<Record> {
-    if journal.len() < JOURNAL {
-        return Answer::refused(10, *record);
-    }
-    let Some(state) = record.state() else {
-        return Answer::refused(15, *record);
-    };
-    let Some(scripts) = Scripts::read(scripts, state.thread_count()) else {
-        return Answer::refused(19, *record);
-    };
-    let progress = Progress::of(record.config(), journal, state.applied);
-    session::make_move(record, journal, next_move(&state, &progress, &scripts, p))
+    record.answer(turned(record, journal, scripts, p))
+}
+
+fn turned(record: &Record, journal: &mut [u8], scripts: &[u8], p: u8) -> Result<State, u8> {
+    let mut replay = journal::test(record, journal)?;
+    let scripts = Scripts::read(scripts, replay.state.thread_count()).ok_or(19)?;
+    let made = next_move(&replay, &scripts, p);
+    replay.extend(journal, made)?;
+    Ok(replay.state)
 }
 
 /// Takes a turn for each listed processor, with the number of each in `answers` and the picture
@@ -176,31 +111,32 @@ pub fn class(
     answers: &mut [u8],
     pictures: &mut [u8],
 ) -> Answer<Record> {
-    let refused = |number: u8| Answer::refused(number, *record);
-    if journal.len() < JOURNAL {
-        return refused(10);
-    }
-    let Some(state) = record.state() else {
-        return refused(15);
-    };
+    record.answer(turned_all(record, journal, scripts, turns, answers, pictures))
+}
+
+fn turned_all(
+    record: &Record,
+    journal: &mut [u8],
+    scripts: &[u8],
+    turns: &[u8],
+    answers: &mut [u8],
+    pictures: &mut [u8],
+) -> Result<State, u8> {
+    let state = journal::state(record, journal)?;
     let shown = &record.snapshot;
     let length = picture::length(shown.processors, shown.threads, shown.mutexes);
     if answers.len() < turns.len() || pictures.len() / length < turns.len() {
-        return refused(10);
+        return Err(10);
     }
-    let mut run = Run::replay(record.config(), journal, state.applied);
-    if run.state != state {
-        return refused(16);
-    }
-    let Some(scripts) = Scripts::read(scripts, state.thread_count()) else {
-        return refused(19);
-    };
+    let mut replay = journal::replay(record, &state, journal)?;
+    let scripts = Scripts::read(scripts, state.thread_count()).ok_or(19)?;
     let pictures = pictures.chunks_exact_mut(length);
     for ((&p, answer), picture) in turns.iter().zip(answers).zip(pictures) {
-        *answer = run.take_turn(journal, &scripts, p).err().unwrap_or(0);
-        picture::fill(&Snapshot::of(&run.state), picture);
+        let made = next_move(&replay, &scripts, p);
+        *answer = replay.extend(journal, made).err().unwrap_or(0);
+        picture::fill(&Snapshot::of(&replay.state), picture);
     }
-    Answer::accepted(Record::of(&run.state, record.born))
+    Ok(replay.state)
 }
 
 #[cfg(test)]
@@ -237,19 +173,6 @@ mod tests {
             let scripts = Scripts::read(&script(&[[YIELD, operand], [LOCK, operand]]), 1).unwrap();
             assert_eq!(scripts.next_call(1, 0), [YIELD, operand]);
             assert_eq!(scripts.next_call(1, 1), [LOCK, operand]);
-        }
-    }
-
-    #[test]
-    fn progress_ends_at_a_refused_move() {
-        let config = Config::new(2, 2, 1, 2);
-        let moves = [[1, YIELD, 0], [1, GO, 0], [2, LOCK, 1], [1, YIELD, 0], [2, LOCK, 1]];
-        let journal = [moves.concat(), vec![1, GO, 0, 1, YIELD, 0]].concat();
-        let progress = |count| Progress::of(config, &journal, count).made;
-        for (count, made) in
-            (0..).zip([[0, 0], [1, 0], [1, 0], [1, 1], [2, 1], [2, 1], [2, 1], [2, 1]])
-        {
-            assert_eq!(progress(count), made, "{count} moves");
         }
     }
 }

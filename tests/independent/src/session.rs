@@ -1,11 +1,9 @@
 //! The calls on a session record and a lent journal, each with its refusals in order.
 
+use crate::journal::{self, Replay};
 use crate::machine::{Config, Move, State};
 use crate::record::{Record, Snapshot};
 use crate::Answer;
-
-/// Least length of a journal: 4,000 moves of 3 bytes.
-pub const JOURNAL: usize = 12_000;
 
 /// Begins a session; refused by 1 with an all-zero record.
 pub fn start(config: Config) -> Answer<Record> {
@@ -15,60 +13,38 @@ pub fn start(config: Config) -> Answer<Record> {
     Answer::accepted(Record::of(&State::start(config), config.born))
 }
 
-/// Makes a move and notes it in the journal; refused by 10, 15, 2, 3, 8, 4 or 5, 6, 7, 15
-/// with the record handed in, the journal unchanged.
+/// Makes a move and notes it in the journal; refused by 10, 15, 16, 2, 3, 8, 4 or 5, 6, 7 with
+/// the record handed in, the journal unchanged. No step from a tested journal is refused by 15.
 pub fn make_move(record: &Record, journal: &mut [u8], made: Move) -> Answer<Record> {
-    if journal.len() < JOURNAL {
-        return Answer::refused(10, *record);
-    }
-    let Some(mut state) = record.state() else {
-        return Answer::refused(15, *record);
-    };
-    let at = 3 * usize::from(state.applied);
-    match state.try_move(made) {
-        Err(number) => Answer::refused(number, *record),
-        Ok(()) => {
-            journal[at..at + 3].copy_from_slice(&made);
-            Answer::accepted(Record::of(&state, record.born))
-        }
-    }
+    record.answer(moved(record, journal, made))
 }
 
-/// The state after the first `count` moves of a journal, or none if one is refused.
-fn replay(config: Config, journal: &[u8], count: u16) -> Option<State> {
-    let mut state = State::start(config);
-    for made in journal.chunks_exact(3).take(usize::from(count)) {
-        state.try_move([made[0], made[1], made[2]]).ok()?;
-    }
-    Some(state)
+fn moved(record: &Record, journal: &mut [u8], made: Move) -> Result<State, u8> {
+    let mut replay = journal::test(record, journal)?;
+    replay.extend(journal, made)?;
+    Ok(replay.state)
 }
 
 /// Undoes the last applied move by replay; refused by 10, 15, 9, 16 with the record handed in.
 pub fn undo(record: &Record, journal: &[u8]) -> Answer<Record> {
-    if journal.len() < JOURNAL {
-        return Answer::refused(10, *record);
-    }
-    let Some(state) = record.state() else {
-        return Answer::refused(15, *record);
-    };
+    record.answer(undone(record, journal))
+}
+
+fn undone(record: &Record, journal: &[u8]) -> Result<State, u8> {
+    let state = journal::state(record, journal)?;
     if state.applied == 0 {
-        return Answer::refused(9, *record);
+        return Err(9);
     }
-    if replay(record.config(), journal, state.applied) != Some(state.clone()) {
-        return Answer::refused(16, *record);
-    }
-    let before = replay(record.config(), journal, state.applied - 1).expect("a front replays");
-    Answer::accepted(Record::of(&before, record.born))
+    journal::replay(record, &state, journal)?;
+    let before = Replay::of(record.config(), journal, state.applied - 1);
+    Ok(before.expect("a front replays").state)
 }
 
 /// The applied moves as the journal's front; refused by 10, 15 with the empty front.
 pub fn front<'a>(record: &Record, journal: &'a [u8]) -> Answer<&'a [u8]> {
-    if journal.len() < JOURNAL {
-        return Answer::refused(10, &journal[..0]);
-    }
-    match record.state() {
-        None => Answer::refused(15, &journal[..0]),
-        Some(state) => Answer::accepted(&journal[..3 * usize::from(state.applied)]),
+    match journal::state(record, journal) {
+        Err(number) => Answer::refused(number, &journal[..0]),
+        Ok(state) => Answer::accepted(&journal[..3 * usize::from(state.applied)]),
     }
 }
 

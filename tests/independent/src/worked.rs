@@ -1,11 +1,15 @@
 //! The worked sessions of document 01 as start tables and lists of moves, and two with a ready
 //! queue for each processor (document 02, No. 13).
 
+use crate::journal::JOURNAL;
 use crate::machine::{
     Config, Move, Position, State, CREATE, EXIT, GO, LOCK, TRYLOCK, UNLOCK, YIELD,
 };
 use crate::picture;
 use crate::record::{Record, Snapshot, ThreadRow, ENDED};
+
+/// What a journal is filled with.
+pub const FILLER: u8 = 0xa5;
 
 /// A start table and moves that are all accepted.
 #[derive(Clone, PartialEq, Eq, Debug)]
@@ -49,6 +53,17 @@ impl Worked {
     pub fn picture(&self) -> Vec<u8> {
         picture::raw_bytes(&self.snapshot())
     }
+
+    pub fn record(&self) -> Record {
+        Record { snapshot: self.snapshot(), born: self.config.born }
+    }
+
+    /// A journal with its moves; bytes past them are filled with one that no move has.
+    pub fn journal(&self) -> Vec<u8> {
+        let mut bytes = self.moves.concat();
+        bytes.resize(JOURNAL, FILLER);
+        bytes
+    }
 }
 
 /// One thread waits for itself.
@@ -82,9 +97,29 @@ pub fn k7() -> Worked {
     session_s(3).go(2, 2).go(1, 1).call(3, TRYLOCK, 1).go(3, 3).go(1, 1).go(3, 1)
 }
 
-/// K8 reached by moves: processor 2 is at L8 with (1,1) observed while the token is (1,2)
-/// and the queue is empty; its last move leads to CI2.
+/// Processor 2 sees (1,1) and is at L8 while processor 1 takes its token back, runs thread 2 and
+/// hands off by (1,2); the queue is empty, and the last move leads to CI2.
 pub fn k8() -> Worked {
+    Worked::new(Config::new(3, 3, 1, 3))
+        .call(1, LOCK, 1)
+        .go(1, 1)
+        .call(2, LOCK, 1)
+        .go(2, 1)
+        .call(3, LOCK, 1)
+        .go(3, 1)
+        .call(1, UNLOCK, 1)
+        .go(1, 3)
+        .go(2, 4)
+        .go(1, 4)
+        .call(1, YIELD, 0)
+        .go(1, 5)
+        .call(1, UNLOCK, 1)
+        .go(1, 3)
+        .go(2, 1)
+}
+
+/// The same of processor 2 among four, where trylocks take the tokens.
+pub fn k8_with_trylocks() -> Worked {
     session_s(4)
         .go(1, 1)
         // Processor 2 queues thread 2 and observes (1,1).
@@ -107,6 +142,11 @@ pub fn k8() -> Worked {
         .call(1, UNLOCK, 1)
         .go(1, 4)
         .go(2, 1)
+}
+
+/// The only thread exits, and its processor goes on: so many moves.
+pub fn k10(count: usize) -> Worked {
+    Worked::new(Config::new(1, 1, 1, 1)).call(1, EXIT, 0).go(1, count - 1)
 }
 
 /// With a ready queue for each of three processors: p exits its threads one after the other and
@@ -148,14 +188,14 @@ pub fn own_queues() -> Worked {
         .go(1, 3)
 }
 
-/// K8 as a record: processor 2 at L8 with (1,1) observed, token (1,2), thread 2 queued.
+/// A record that no moves give: processor 2 at L8 with (1,1) observed, token (1,2), thread 2 queued.
 pub fn k8_record() -> Record {
     let mut snapshot = session_s(2).go(1, 1).go(2, 4).snapshot();
     snapshot.mutex_rows[0].token.sequence = 2;
     Record { snapshot, born: 2 }
 }
 
-/// A start with processor 2 at CI2, said to have `applied` moves.
+/// A start's record, but for the number of moves.
 pub fn k10_record(applied: u16) -> Record {
     let mut snapshot = Worked::new(Config::new(2, 1, 1, 1)).snapshot();
     snapshot.applied = applied;
@@ -163,7 +203,7 @@ pub fn k10_record(applied: u16) -> Record {
 }
 
 /// Records with a line that would leave the rules, each with its processor: L1 and TL3 at
-/// count T + 1, U1 at count 0, H5 at sequence 4,000, L9 with an empty queue.
+/// count T + 1, U1 at count 0, H5 at sequence 4,000, L9 with an empty queue. No moves give them.
 pub fn steps_out_of_rules() -> Vec<(&'static str, Record, u8)> {
     let one = Worked::new(Config::new(1, 1, 1, 1));
     let mut at_l1 = one.clone().call(1, LOCK, 1).snapshot();

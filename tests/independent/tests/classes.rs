@@ -1,6 +1,7 @@
 //! Classes: their refusals and buffers, each against its turns taken one by one and against the
 //! plain session, and the laws by history over random classes.
 
+use independent::journal::JOURNAL;
 use independent::machine::{
     Config, Move, Position, State, CREATE, EXIT, GO, LOCK, MOST_MOVES, UNLOCK, YIELD,
 };
@@ -9,11 +10,9 @@ use independent::plain::{check_laws, History, Plain};
 use independent::random::{Driver, Generator, Rates};
 use independent::record::{Record, Snapshot};
 use independent::script::{self, script, SCRIPT};
-use independent::session::{self, JOURNAL};
-use independent::worked::{self, Worked};
+use independent::session;
+use independent::worked::{self, Worked, FILLER};
 use std::collections::BTreeMap;
-
-const FILLER: u8 = 0xa5;
 
 fn picture_length(config: Config) -> usize {
     picture::length(config.processors, config.threads, config.mutexes)
@@ -33,11 +32,9 @@ struct Lesson {
 impl Lesson {
     /// After the moves of a session, with buffers of just the length needed.
     fn new(worked: &Worked, scripts: Vec<u8>, turns: Vec<u8>) -> Lesson {
-        let mut journal = worked.moves.concat();
-        journal.resize(JOURNAL, FILLER);
         Lesson {
-            record: Record { snapshot: worked.snapshot(), born: worked.config.born },
-            journal,
+            record: worked.record(),
+            journal: worked.journal(),
             scripts,
             answers: vec![FILLER; turns.len()],
             pictures: vec![FILLER; turns.len() * picture_length(worked.config)],

@@ -1,11 +1,12 @@
 //! Laws, record calls against the plain session and picture round trips, over random sessions.
 
+use independent::journal::JOURNAL;
 use independent::machine::{Config, Position, State, Token};
 use independent::picture;
 use independent::plain::{check_laws, History, Plain};
 use independent::random::{Call, Driver, Generator, Rates};
 use independent::record::{Record, Snapshot};
-use independent::session::{self, Ahead, JOURNAL};
+use independent::session::{self, Ahead};
 use std::collections::{BTreeMap, BTreeSet};
 
 #[derive(Default)]

@@ -1,7 +1,7 @@
 //! The line program, in memory and as a process.
 
+use independent::journal::JOURNAL;
 use independent::program::{run, Reader};
-use independent::session::JOURNAL;
 use std::io::{Read, Write};
 use std::process::{Command, Stdio};
 

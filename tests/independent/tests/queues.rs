@@ -1,11 +1,12 @@
 //! A ready queue for each processor (document 02, No. 13), one thing at a time: the start, which
 //! queue a thread joins, looks and their numbers, pictures and records, scripts.
 
+use independent::journal::{Replay, JOURNAL};
 use independent::machine::{Config, Position, State, CREATE, EXIT, GO, LOCK, YIELD};
 use independent::picture::{self, raw_bytes};
 use independent::record::{Record, Snapshot};
-use independent::script::{self, script, Progress, SCRIPT};
-use independent::session::{self, JOURNAL};
+use independent::script::{self, script, SCRIPT};
+use independent::session;
 use independent::worked::{self, Worked};
 
 fn each(p: u8, t: u8, m: u8, b: u8) -> Config {
@@ -150,9 +151,8 @@ fn pictures_of_a_single_queue() {
 fn steps_back() {
     for p in 1..=3 {
         let worked = worked::steals(p);
-        let mut journal = worked.moves.concat();
-        journal.resize(JOURNAL, 0xa5);
-        let mut record = Record { snapshot: worked.snapshot(), born: 6 };
+        let journal = worked.journal();
+        let mut record = worked.record();
         for left in (0..worked.moves.len()).rev() {
             let mut other = record;
             other.snapshot.stealing = 0;
@@ -166,8 +166,7 @@ fn steps_back() {
     }
     // A look number that the moves do not give.
     let idle = Worked::new(each(2, 2, 1, 1)).go(2, 3);
-    let mut record = Record { snapshot: idle.snapshot(), born: 1 };
-    let journal = [idle.moves.concat(), vec![0; JOURNAL]].concat();
+    let (mut record, journal) = (idle.record(), idle.journal());
     assert_eq!(record.snapshot.processor_rows[1].probe, 1);
     record.snapshot.processor_rows[1].probe = 0;
     assert_eq!(session::undo(&record, &journal).number, 16);
@@ -196,7 +195,7 @@ fn stolen_threads_have_their_progress() {
     let done = script::class(&begun, &mut journal, &scripts, &turns, &mut answers, &mut pictures);
     assert_eq!((done.number, answers), (0, [0; 13]));
     assert_eq!(journal[3 * 12..][..3], [2, LOCK, 1]);
-    let progress = Progress::of(config, &journal, 13);
+    let progress = Replay::of(config, &journal, 13).unwrap().progress;
     assert_eq!([1, 2, 3, 4].map(|thread| progress.thread(thread)), [2, 1, 1, 0]);
     let last = &pictures[12 * 56..];
     assert_eq!(last, raw_bytes(&done.value.snapshot));

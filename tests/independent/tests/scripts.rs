@@ -1,15 +1,14 @@
 //! Scripts, turns and their refusals, one by one: 19 at its boundaries, the order of refusals,
 //! and which call a thread makes next.
 
+use independent::journal::{Replay, JOURNAL};
 use independent::machine::{
     Config, Life, Move, Position, CREATE, EXIT, GO, LOCK, TRYLOCK, UNLOCK, YIELD,
 };
 use independent::record::Record;
-use independent::script::{self, script, Progress, Scripts, SCRIPT};
-use independent::session::{self, JOURNAL};
-use independent::worked::{self, Worked};
-
-const FILLER: u8 = 0xa5;
+use independent::script::{self, script, Scripts, SCRIPT};
+use independent::session;
+use independent::worked::{self, Worked, FILLER};
 
 /// A session under scripts, record and journal.
 struct ScriptedSession {
@@ -66,8 +65,8 @@ impl ScriptedSession {
     /// How many calls each thread has made.
     fn progress(&self) -> Vec<u16> {
         let config = self.record.config();
-        let progress = Progress::of(config, &self.journal, self.record.snapshot.applied);
-        (1..=config.threads).map(|thread| progress.thread(thread)).collect()
+        let replay = Replay::of(config, &self.journal, self.record.snapshot.applied).unwrap();
+        (1..=config.threads).map(|thread| replay.progress.thread(thread)).collect()
     }
 
     fn position(&self, p: u8) -> Position {
@@ -179,42 +178,57 @@ fn starts() {
     }
 }
 
-/// 10, 15, 19, then 2, 3, 8, 6, 7, 15 as a move has them.
+/// The number of a turn that is refused.
+fn refused(record: &Record, journal: &[u8], scripts: &[u8], p: u8) -> u8 {
+    let mut after = journal.to_vec();
+    let answer = script::turn(record, &mut after, scripts, p);
+    assert_eq!(answer.value, *record);
+    assert!(after == journal);
+    answer.number
+}
+
+/// 10, 15, 16, 19, then 2, 3, 6, 7 as a move has them.
 #[test]
 fn order_of_refusals() {
-    let config = Config::new(2, 3, 1, 2);
-    let record = session::start(config).value;
-    let wrong = Record { born: 4, ..record };
+    let record = session::start(Config::new(2, 3, 1, 2)).value;
     let good = [script(&[[LOCK, 2]]), script(&[[UNLOCK, 1]]), script(&[])].concat();
     let bad = &good[..3 * SCRIPT - 1];
-    let number = |record: &Record, length: usize, scripts: &[u8], p: u8| {
-        let mut journal = vec![FILLER; length];
-        let answer = script::turn(record, &mut journal, scripts, p);
-        assert_eq!(answer.value, *record);
-        assert!(journal.iter().all(|&byte| byte == FILLER));
-        answer.number
-    };
-    assert_eq!(number(&wrong, JOURNAL - 1, bad, 0), 10);
-    assert_eq!(number(&wrong, JOURNAL, bad, 0), 15);
-    assert_eq!(number(&record, JOURNAL, bad, 0), 19);
+    let journal = [FILLER; JOURNAL + 1];
+    let lent = &journal[..JOURNAL];
+    let outside = Record { born: 4, ..record };
+    assert_eq!(refused(&outside, &journal[..JOURNAL - 1], bad, 0), 10);
+    assert_eq!(refused(&outside, lent, bad, 0), 15);
+    assert_eq!(refused(&Record { born: 3, ..record }, lent, bad, 0), 16);
+    assert_eq!(refused(&record, lent, bad, 0), 19);
     for absent in [0, 3, 9, 255] {
-        assert_eq!(number(&record, JOURNAL, &good, absent), 2);
+        assert_eq!(refused(&record, lent, &good, absent), 2);
     }
-    assert_eq!(number(&record, JOURNAL + 1, &good, 1), 3);
-    assert_eq!(number(&record, JOURNAL, &good, 2), 6);
-    // With 4,000 applied: 3 before 8, 8 before 6. The journal's moves are all refused.
-    let mut full = record;
-    full.snapshot.applied = 4_000;
-    assert_eq!(number(&full, JOURNAL, bad, 0), 19);
-    assert_eq!(number(&full, JOURNAL, &good, 0), 2);
-    assert_eq!(number(&full, JOURNAL, &good, 1), 3);
-    assert_eq!(number(&full, JOURNAL, &good, 2), 8);
-    // 7, and a step that would leave the rules.
+    assert_eq!(refused(&record, &journal, &good, 1), 3);
+    assert_eq!(refused(&record, lent, &good, 2), 6);
     let creates = [script(&[[CREATE, 2]]), script(&[[CREATE, 4]]), script(&[])].concat();
-    assert_eq!(number(&record, JOURNAL, &creates, 1), 7);
-    assert_eq!(number(&record, JOURNAL, &creates, 2), 3);
+    assert_eq!(refused(&record, lent, &creates, 1), 7);
+    assert_eq!(refused(&record, lent, &creates, 2), 3);
+    // Records whose step would leave the rules are no session's.
     for (name, record, p) in worked::steps_out_of_rules() {
-        assert_eq!(number(&record, JOURNAL, &[0; 13 * 32], p), 15, "{name}");
+        assert_eq!(refused(&record, lent, &[0; 13 * 32], p), 16, "{name}");
+    }
+}
+
+/// With 4,000 applied: 2 and 3 before 8, 8 before 6 and 7, and 16 and 19 before them all.
+#[test]
+fn most_moves() {
+    let full = Worked::new(Config::new(4, 4, 1, 3)).go(4, 4_000);
+    let scripts = [[LOCK, 2], [UNLOCK, 1], [CREATE, 1], [LOCK, 1]];
+    let scripts = scripts.map(|call| script(&[call])).concat();
+    let (record, mut journal) = (full.record(), full.journal());
+    for (p, number) in [(0, 2), (5, 2), (1, 3), (2, 8), (3, 8), (4, 8)] {
+        assert_eq!(refused(&record, &journal, &scripts, p), number);
+        assert_eq!(refused(&record, &journal, &scripts[1..], p), 19);
+    }
+    journal[JOURNAL - 1] = 1;
+    for p in 0..=5 {
+        assert_eq!(refused(&record, &journal, &scripts, p), 16);
+        assert_eq!(refused(&record, &journal, &scripts[1..], p), 16);
     }
 }
 
@@ -414,38 +428,33 @@ fn same_record_other_journals() {
     assert_eq!((one.last(), two.last()), ([2, YIELD, 0], [2, TRYLOCK, 1]));
 }
 
-/// Of a journal that does not replay the calls before its first refused move count, whoever made
-/// them; moves past the applied ones do not.
+/// Other journals for one record: the calls of one that gives the record count, whoever made them;
+/// moves past the applied ones do not.
 #[test]
-fn journals_that_do_not_replay() {
+fn other_journals() {
     let scripts = [script(&[[YIELD, 0], [LOCK, 1]]), script(&[])].concat();
     let begun = Worked::new(Config::new(2, 2, 1, 2));
-    let stood = begun.clone().call(2, YIELD, 0).go(2, 1).call(2, YIELD, 0).go(2, 1);
-    let record = Record { snapshot: stood.snapshot(), born: 2 };
+    let record = begun.call(2, YIELD, 0).go(2, 1).call(2, YIELD, 0).go(2, 1).record();
+    let journal =
+        |moves: &[Move]| Worked { config: record.config(), moves: moves.to_vec() }.journal();
     let yields = |p: u8| [[p, YIELD, 0], [p, GO, 0]];
     let next = |moves: &[Move]| {
-        let mut journal = vec![FILLER; JOURNAL];
-        journal[..3 * moves.len()].copy_from_slice(&moves.concat());
+        let mut journal = journal(moves);
         assert_eq!(script::turn(&record, &mut journal, &scripts, 1).number, 0);
         [journal[12], journal[13], journal[14]]
     };
-    assert_eq!(next(&stood.moves), [1, YIELD, 0]);
-    assert_eq!(next(&[]), [1, YIELD, 0]);
-    assert_eq!(next(&yields(1)), [1, LOCK, 1]);
+    assert_eq!(next(&[yields(2), yields(2)].concat()), [1, YIELD, 0]);
+    assert_eq!(next(&[yields(1), yields(2)].concat()), [1, LOCK, 1]);
+    assert_eq!(next(&[yields(2), yields(1)].concat()), [1, LOCK, 1]);
     assert_eq!(next(&[yields(1), yields(1)].concat()), [1, EXIT, 0]);
-    // The second yield is refused by 4, all after it is not counted.
-    assert_eq!(next(&[[1, YIELD, 0], [1, YIELD, 0], [1, GO, 0], [1, YIELD, 0]]), [1, LOCK, 1]);
-    // Four moves stand: the fifth does not count.
-    let five = [yields(2), yields(1), yields(1)].concat();
-    assert_eq!(next(&five), [1, LOCK, 1]);
-    // B decides whose calls they are.
+    let six = [yields(2), yields(1), yields(1)].concat();
+    assert_eq!(next(&six), [1, LOCK, 1]);
+    // Moves that are refused, or that give another record.
+    let refused_moves = [[1, YIELD, 0], [1, YIELD, 0], [1, GO, 0], [1, YIELD, 0]];
+    let other_record = [yields(1), [[2, LOCK, 1], [2, GO, 0]]].concat();
+    for moves in [&[], &yields(1)[..], &refused_moves, &other_record] {
+        assert_eq!(refused(&record, &journal(moves), &scripts, 1), 16);
+    }
     let other = Record { born: 1, ..record };
-    let mut journal = [yields(1), yields(1)].concat().concat();
-    journal.resize(JOURNAL, 0);
-    assert_eq!(script::turn(&other, &mut journal, &scripts, 1).number, 0);
-    assert_eq!(journal[12..15], [1, EXIT, 0]);
-    let mut journal = [yields(2), yields(1)].concat().concat();
-    journal.resize(JOURNAL, 0);
-    assert_eq!(script::turn(&other, &mut journal, &scripts, 1).number, 0);
-    assert_eq!(journal[12..15], [1, YIELD, 0]);
+    assert_eq!(refused(&other, &journal(&six), &scripts, 1), 16);
 }

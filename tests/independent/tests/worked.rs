@@ -1,9 +1,10 @@
 //! Sessions K1 to K10, the journal's least length, and the order of refusals.
 
-use independent::machine::{Config, Position, Token, EXIT, GO, LOCK, UNLOCK};
+use independent::journal::JOURNAL;
+use independent::machine::{Config, Position, Token, CREATE, EXIT, GO, LOCK, UNLOCK};
 use independent::record::{Record, Snapshot, ThreadRow, READY, WAITING};
-use independent::session::{self, Ahead, JOURNAL};
-use independent::worked::{self, Worked};
+use independent::session::{self, Ahead};
+use independent::worked::{self, Worked, FILLER};
 use independent::{picture, plain};
 
 fn token(processor: u8, sequence: u16) -> Token {
@@ -12,7 +13,7 @@ fn token(processor: u8, sequence: u16) -> Token {
 
 /// Makes the moves on a record and a journal; all are accepted.
 fn made(worked: &Worked) -> (Record, Vec<u8>) {
-    let mut journal = vec![0xa5; JOURNAL];
+    let mut journal = vec![FILLER; JOURNAL];
     let mut record = session::start(worked.config).value;
     for &one in &worked.moves {
         let answer = session::make_move(&record, &mut journal, one);
@@ -103,18 +104,27 @@ fn session_s_h6() -> Snapshot {
 
 #[test]
 fn k8() {
-    let mut journal = vec![0; JOURNAL];
-    let answer = session::make_move(&worked::k8_record(), &mut journal, [2, GO, 0]);
-    assert_eq!(answer.number, 0);
-    assert_eq!(answer.value.state().unwrap().processor(2).position, Position::CI2);
-
-    let k8 = worked::k8();
-    let before = k8.front(k8.moves.len() - 1).state();
-    assert_eq!(before.processor(2).position, Position::L8);
-    assert_eq!(before.processor(2).observed, token(1, 1));
-    assert_eq!(before.mutex(1).token, token(1, 2));
-    assert!(before.mutex(1).queue.is_empty());
-    assert_eq!(k8.state().processor(2).position, Position::CI2);
+    assert_eq!(worked::k8().moves.len(), 28 + 1);
+    for k8 in [worked::k8(), worked::k8_with_trylocks()] {
+        let (record, mut journal) = made(&k8.front(k8.moves.len() - 1));
+        let before = record.state().unwrap();
+        assert_eq!(before.processor(2).position, Position::L8);
+        assert_eq!(before.processor(2).observed, token(1, 1));
+        assert_eq!(before.mutex(1).token, token(1, 2));
+        assert!(before.mutex(1).queue.is_empty());
+        let answer = session::make_move(&record, &mut journal, [2, GO, 0]);
+        assert_eq!((answer.number, answer.value), (0, k8.record()));
+        let after = answer.value.state().unwrap();
+        assert_eq!(after.processor(2).position, Position::CI2);
+        assert_eq!(after.mutex(1).token, token(1, 2));
+    }
+    // The line alone, with thread 2 queued; no journal gives this record.
+    let record = worked::k8_record();
+    let mut state = record.state().unwrap();
+    assert_eq!(state.try_move([2, GO, 0]), Ok(()));
+    assert_eq!(state.processor(2).position, Position::CI2);
+    let mut journal = worked::session_s(2).go(1, 1).go(2, 4).journal();
+    assert_eq!(session::make_move(&record, &mut journal, [2, GO, 0]).number, 16);
 }
 
 #[test]
@@ -129,45 +139,70 @@ fn k9() {
 }
 
 #[test]
-fn k10_and_journal_length() {
-    let mut journal = vec![0xa5; JOURNAL];
-    let record = worked::k10_record(3_999);
-    let answer = session::make_move(&record, &mut journal, [2, GO, 0]);
+fn k10() {
+    let (record, mut journal) = made(&worked::k10(3_999));
+    let before = journal.clone();
+    let answer = session::make_move(&record, &mut journal, [1, GO, 0]);
     assert_eq!((answer.number, answer.value.snapshot.applied), (0, 4_000));
-    assert_eq!(journal[JOURNAL - 3..], [2, GO, 0]);
-    assert!(journal[..JOURNAL - 3].iter().all(|&byte| byte == 0xa5));
-    let record = worked::k10_record(4_000);
-    let answer = session::make_move(&record, &mut journal, [2, GO, 0]);
+    assert_eq!(journal[JOURNAL - 3..], [1, GO, 0]);
+    assert_eq!(journal[..JOURNAL - 3], before[..JOURNAL - 3]);
+    let record = answer.value;
+    let answer = session::make_move(&record, &mut journal, [1, GO, 0]);
     assert_eq!((answer.number, answer.value), (8, record));
-    // 2 and 3 come before 8, 4 and 5 after it.
-    for (made, number) in
-        [([3, GO, 0], 2), ([2, GO, 1], 3), ([2, LOCK, 1], 8), ([1, GO, 0], 8), ([1, UNLOCK, 1], 8)]
-    {
-        assert_eq!(session::make_move(&record, &mut journal, made).number, number);
+    // What is said to stand is not enough.
+    for (applied, number) in [(3_999, 16), (4_000, 16), (4_001, 15)] {
+        let record = worked::k10_record(applied);
+        let answer = session::make_move(&record, &mut journal, [2, GO, 0]);
+        assert_eq!((answer.number, answer.value), (number, record));
     }
-    let record = worked::k10_record(4_001);
-    assert_eq!(session::make_move(&record, &mut journal, [3, GO, 0]).number, 15);
+}
 
+/// 2 and 3 come before 8; 4, 5, 6 and 7 after it.
+#[test]
+fn most_moves() {
+    let full = Worked::new(Config::new(2, 1, 1, 1)).go(2, 4_000);
+    let (record, mut journal) = (full.record(), full.journal());
+    let before = journal.clone();
+    for (made, number) in [
+        ([3, GO, 0], 2),
+        ([2, GO, 1], 3),
+        ([2, GO, 0], 8),
+        ([2, LOCK, 1], 8),
+        ([1, GO, 0], 8),
+        ([1, UNLOCK, 1], 8),
+        ([1, CREATE, 1], 8),
+    ] {
+        let answer = session::make_move(&record, &mut journal, made);
+        assert_eq!((answer.number, answer.value), (number, record), "{made:?}");
+        assert!(journal == before);
+    }
+}
+
+#[test]
+fn journal_length() {
     let record = worked::k10_record(0);
+    let mut journal = vec![FILLER; JOURNAL];
     assert_eq!(session::make_move(&record, &mut journal[..JOURNAL - 1], [9, 9, 9]).number, 10);
     assert_eq!(session::make_move(&record, &mut journal, [2, GO, 0]).number, 0);
 }
 
+/// A line that would leave the rules has 15; a move never comes to it, since no journal gives such
+/// a record.
 #[test]
 fn steps_out_of_rules() {
     for (name, record, p) in worked::steps_out_of_rules() {
-        assert_eq!(record.snapshot.broken_rule(), None, "{name}");
-        let mut journal = vec![0xa5; JOURNAL];
+        let state = record.state().unwrap();
+        assert_eq!(state.cause([p, GO, 0]), Some(15), "{name}");
+        let mut journal = vec![FILLER; JOURNAL];
         let answer = session::make_move(&record, &mut journal, [p, GO, 0]);
-        assert_eq!((answer.number, answer.value), (15, record), "{name}");
-        assert!(journal.iter().all(|&byte| byte == 0xa5));
+        assert_eq!((answer.number, answer.value), (16, record), "{name}");
+        assert!(journal.iter().all(|&byte| byte == FILLER));
     }
     // One less is taken.
-    let mut at_h5 = worked::steps_out_of_rules()[3].1;
-    at_h5.snapshot.processor_rows[0].sequence = 3_999;
-    let answer = session::make_move(&at_h5, &mut [0; JOURNAL], [1, GO, 0]);
-    assert_eq!(answer.number, 0);
-    assert_eq!(answer.value.snapshot.mutex_rows[0].token, token(1, 4_000));
+    let mut at_h5 = worked::steps_out_of_rules()[3].1.state().unwrap();
+    at_h5.processors[0].sequence = 3_999;
+    assert_eq!(at_h5.try_move([1, GO, 0]), Ok(()));
+    assert_eq!(at_h5.mutex(1).token, token(1, 4_000));
 }
 
 #[test]

@@ -6,12 +6,13 @@
 use differential::classes::Class;
 use differential::sessions::{drive_with, Session};
 use differential::{class, expected, read, replay, replay_with, MOST_PICTURE};
+use independent::journal::JOURNAL;
 use independent::machine::{State, MOST_MOVES};
 use independent::picture;
 use independent::random::{Generator, Rates};
 use independent::record::{Record, Snapshot};
 use independent::script;
-use independent::session::{make_move, start, undo, JOURNAL};
+use independent::session::{make_move, start, undo};
 use std::env;
 use std::hint::black_box;
 use std::io::Write;

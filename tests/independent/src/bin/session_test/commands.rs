@@ -27,11 +27,12 @@
 //! - `generate seed q`: the list is filled with numbers from 0 to q. `vary seed`: the answers and
 //!   the pictures are filled, as `noise` fills a journal.
 
+use independent::journal::JOURNAL;
 use independent::machine::{Config, Token};
 use independent::picture;
 use independent::record::{MutexRow, ProcessorRow, Record, Snapshot, ThreadRow};
 use independent::script;
-use independent::session::{self, ahead, Ahead, JOURNAL};
+use independent::session::{self, ahead, Ahead};
 use independent::Answer;
 use std::fmt::Write;
 

@@ -5,12 +5,12 @@ use crate::commands::{
     first, mutex, own_first, probe, processor, thread, Fields, APPLIED, BORN, FIELDS, STEALING,
 };
 use crate::scripted;
+use independent::journal::JOURNAL;
 use independent::machine::{
     Config, Move, Position, State, CREATE, EXIT, GO, LOCK, TRYLOCK, UNLOCK, YIELD,
 };
 use independent::random::{Call, Driver, Rates};
 use independent::record::Record;
-use independent::session::JOURNAL;
 use independent::worked::{self, Worked};
 use std::fmt::Write;
 

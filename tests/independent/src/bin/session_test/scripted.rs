@@ -3,11 +3,11 @@
 
 use crate::commands::{processor, ANSWERS, APPLIED, BORN, PICTURES, SCRIPTS, TURNS};
 use crate::script::{table, Script, FIFTHS, LENGTHS, MOST};
+use independent::journal::JOURNAL;
 use independent::machine::{Config, CREATE, EXIT, LOCK, TRYLOCK, UNLOCK, YIELD};
 use independent::picture;
 use independent::random::Generator;
 use independent::script::{script, Call, SCRIPT};
-use independent::session::JOURNAL;
 use independent::worked::{self, Worked};
 use std::fmt::Write;
 

@@ -1,11 +1,11 @@
 //! Classes with the answers and the pictures that they must give.
 
 use crate::{field, Folder};
+use independent::journal::JOURNAL;
 use independent::machine::{Config, State, CREATE, GO, LOCK, TRYLOCK, UNLOCK, YIELD};
 use independent::picture::{self, hex};
 use independent::random::Generator;
 use independent::script::{self, script, Call, SCRIPT};
-use independent::session::JOURNAL;
 use independent::spelling::table;
 use independent::worked::{self, Worked};
 use std::fmt::Write;
@@ -158,7 +158,7 @@ fn named() -> Vec<(String, String)> {
         ("k5", worked::k5()),
         ("k6", worked::k6()),
         ("k7", worked::k7()),
-        ("k8", worked::k8()),
+        ("k8", worked::k8_with_trylocks()),
     ];
     let mut all: Vec<(String, String)> = worked
         .iter()

@@ -260,7 +260,7 @@ fn fixed() -> Vec<(&'static str, Vec<u8>)> {
         ("k5-views", viewed(&worked::k5())),
         ("k6-views", viewed(&worked::k6())),
         ("k7-views", viewed(&worked::k7())),
-        ("k8-views", viewed(&worked::k8())),
+        ("k8-views", viewed(&worked::k8_with_trylocks())),
         ("each-steals-2-views", viewed(&worked::steals(2))),
         ("each-own-queues-views", viewed(&worked::own_queues())),
         ("scripts", scripts()),

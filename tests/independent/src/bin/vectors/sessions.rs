@@ -415,7 +415,7 @@ fn fixed() -> Vec<(&'static str, Vec<u8>)> {
         ("k5", shown(&worked::k5(), &[])),
         ("k6", shown(&worked::k6(), &[])),
         ("k7", shown(&worked::k7(), &[])),
-        ("k8-by-moves", shown(&worked::k8(), &[])),
+        ("k8-by-moves", shown(&worked::k8_with_trylocks(), &[])),
         ("k9", shown(&owned, &["move 2 3 1", "show"])),
         (
             "before-start",
@@ -467,7 +467,7 @@ fn fixed() -> Vec<(&'static str, Vec<u8>)> {
         ("each-steals-3", there_and_back(&worked::steals(3))),
         ("each-own-queues", shown(&worked::own_queues(), &[])),
         ("back-k7", there_and_back(&worked::k7())),
-        ("back-k8", there_and_back(&worked::k8())),
+        ("back-k8", there_and_back(&worked::k8_with_trylocks())),
         ("most-moves", most_moves()),
     ]
 }

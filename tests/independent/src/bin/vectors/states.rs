@@ -40,7 +40,7 @@ fn deep_from(config: Config, seed: u64, least: u16, waiting: usize) -> Option<Sn
 pub fn all() -> Vec<Named> {
     let start = |p, t, m, b| Worked::new(Config::new(p, t, m, b)).snapshot();
     let (k4, k5, k6, k7, k8) =
-        (worked::k4(), worked::k5(), worked::k6(), worked::k7(), worked::k8());
+        (worked::k4(), worked::k5(), worked::k6(), worked::k7(), worked::k8_with_trylocks());
     let list = [
         ("start-1-1-1-1", start(1, 1, 1, 1)),
         ("start-2-5-2-4", start(2, 5, 2, 4)),
