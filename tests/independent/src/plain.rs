@@ -72,16 +72,7 @@ impl Plain {
         (state, history)
     }
 
-    /// Whether another journal passes for the session's own: as many of its moves as are listed
-    /// are accepted and give the same state. Where it does not, a call lent it is refused by 16.
-    pub fn passes(&self, journal: &[u8]) -> bool {
-        let mut state = State::start(self.config);
-        let mut moves = journal.chunks_exact(3).take(self.moves.len());
-        moves.all(|made| state.try_move([made[0], made[1], made[2]]).is_ok())
-            && state == self.work_out().0
-    }
-
-    /// Answers a move with the session's own journal.
+    /// Answers a move.
     pub fn make_move(&mut self, made: Move) -> u8 {
         let (state, _) = self.work_out();
         match state.cause(made) {
