@@ -14,13 +14,9 @@ use independent::Answer;
 /// The scripts of threads that exit.
 const EXITS: [u8; 32 * SCRIPT] = [0; 32 * SCRIPT];
 
-/// A call lent a journal; refused, it changes neither record nor journal, accepted, the journal
-/// holds one move more.
-fn called(
-    record: &Record,
-    journal: &[u8],
-    call: impl FnOnce(&mut [u8]) -> Answer<Record>,
-) -> Answer<Record> {
+/// The number of a call lent a journal; refused, it changes neither record nor journal, accepted,
+/// the journal holds one move more.
+fn called(record: &Record, journal: &[u8], call: impl FnOnce(&mut [u8]) -> Answer<Record>) -> u8 {
     let mut after = journal.to_vec();
     let answer = call(&mut after);
     if answer.is_accepted() {
@@ -30,7 +26,7 @@ fn called(
     } else {
         assert!(answer.value == *record && after == journal);
     }
-    answer
+    answer.number
 }
 
 /// What as many moves of the journal as a record has give from its start table, if all are accepted.
@@ -43,11 +39,11 @@ fn given(record: &Record, journal: &[u8]) -> Option<Record> {
 }
 
 fn move_number(record: &Record, journal: &[u8], made: Move) -> u8 {
-    called(record, journal, |journal| session::make_move(record, journal, made)).number
+    called(record, journal, |journal| session::make_move(record, journal, made))
 }
 
 fn turn_number(record: &Record, journal: &[u8], scripts: &[u8], p: u8) -> u8 {
-    called(record, journal, |journal| script::turn(record, journal, scripts, p)).number
+    called(record, journal, |journal| script::turn(record, journal, scripts, p))
 }
 
 /// Calls each entry point with a record and a journal of the least length; all give the number of

@@ -20,13 +20,14 @@ fn changes(s: &mut Script, from: &Fields, to: &Fields) {
     }
 }
 
-/// A step back, the last thread's turns ahead, a move, the picture and a step back after it; then
+/// A step back, the last thread's turns ahead, a move, the picture and a last call after it; then
 /// record and journal are brought back.
-fn calls(s: &mut Script, threads: u8) {
-    s.all(&["b", &format!("q {threads}"), "m 1 0 0", "p", "b", "a"]);
+fn calls(s: &mut Script, threads: u8, last: &str) {
+    s.all(&["b", &format!("q {threads}"), "m 1 0 0", "p", last, "a"]);
 }
 
-/// From a start, the record of the first case; then from it that of each case in turn.
+/// From a start, the record of the first case; then from it that of each case in turn. With chains
+/// that are wrong they are refused by 15, with right ones moves and turns are refused by 16.
 fn records(s: &mut Script, config: Config, cases: &[Case]) {
     s.start(config);
     let begun = Fields::of(&session::start(config).value);
@@ -35,7 +36,7 @@ fn records(s: &mut Script, config: Config, cases: &[Case]) {
     s.say("keep");
     for case in cases {
         changes(s, &right, &fields(case.shown, config.born));
-        calls(s, config.threads);
+        calls(s, config.threads, "t 1");
     }
     s.say("hash");
 }
@@ -69,9 +70,9 @@ fn several(s: &mut Script) {
 /// A session, its picture and the calls at its end.
 fn reached(s: &mut Script, worked: &Worked) {
     s.start(worked.config);
-    worked.moves.iter().for_each(|&made| s.short(made));
+    worked.moves.iter().for_each(|&made| s.make(made));
     s.all(&["keep", "picture"]);
-    calls(s, worked.config.threads);
+    calls(s, worked.config.threads, "b");
     s.say("hash");
 }
 

@@ -3,11 +3,16 @@
 
 mod chains;
 mod commands;
+mod journals;
 mod script;
 mod scripted;
+mod writer;
 
 use std::path::Path;
 use std::{env, fs, io};
+
+/// The most bytes of a script that the program reads.
+const ROOM: usize = 262_144;
 
 fn main() -> io::Result<()> {
     let Some(folder) = env::args_os().nth(1) else {
@@ -16,6 +21,7 @@ fn main() -> io::Result<()> {
     };
     let folder = Path::new(&folder);
     let script = script::whole();
+    assert!(script.len() <= ROOM, "{} bytes", script.len());
     fs::create_dir_all(folder)?;
     fs::write(folder.join("stdout"), commands::answers(&script))?;
     fs::write(folder.join("stdin"), script)

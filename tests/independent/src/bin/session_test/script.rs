@@ -1,10 +1,10 @@
 //! The script: the sessions of document 01, and each refusal at its boundaries.
 
 use crate::chains;
-use crate::commands::{
-    first, mutex, own_first, probe, processor, thread, Fields, APPLIED, BORN, FIELDS, STEALING,
-};
+use crate::commands::{first, mutex, processor, thread, Fields, APPLIED, BORN, FIELDS, STEALING};
+use crate::journals;
 use crate::scripted;
+use crate::writer::Writer;
 use independent::journal::JOURNAL;
 use independent::machine::{
     Config, Move, Position, State, CREATE, EXIT, GO, LOCK, TRYLOCK, UNLOCK, YIELD,
@@ -50,16 +50,16 @@ impl Script {
         writeln!(self.0, "start {}", table(config)).unwrap();
     }
 
-    fn make(&mut self, [p, a, o]: Move) {
-        writeln!(self.0, "move {p} {a} {o}").unwrap();
+    pub fn make(&mut self, [p, a, o]: Move) {
+        writeln!(self.0, "m {p} {a} {o}").unwrap();
     }
 
     pub fn change(&mut self, field: usize, value: u16) {
-        writeln!(self.0, "change {field} {value}").unwrap();
+        writeln!(self.0, "c {field} {value}").unwrap();
     }
 
     pub fn write(&mut self, at: usize, byte: u8) {
-        writeln!(self.0, "write {at} {byte}").unwrap();
+        writeln!(self.0, "w {at} {byte}").unwrap();
     }
 
     pub fn lend(&mut self, length: usize) {
@@ -71,15 +71,22 @@ impl Script {
         worked.moves.iter().for_each(|&made| self.make(made));
     }
 
-    /// A move in its short form.
-    pub fn short(&mut self, [p, a, o]: Move) {
-        writeln!(self.0, "m {p} {a} {o}").unwrap();
+    /// A call after an edit, which is lines; then record and journal are brought back.
+    pub fn edited(&mut self, edit: &str, call: &str) {
+        self.raw(edit);
+        self.all(&[call, "a"]);
+    }
+
+    /// After an edit a step back, a move and its processor's turn, each from what was kept.
+    pub fn tried(&mut self, edit: &str, [p, a, o]: Move) {
+        for call in ["b".to_string(), format!("m {p} {a} {o}"), format!("t {p}")] {
+            self.edited(edit, &call);
+        }
     }
 
     /// Tries a move and brings record and journal back.
-    fn try_move(&mut self, made: Move) {
-        self.short(made);
-        self.say("a");
+    fn try_move(&mut self, [p, a, o]: Move) {
+        self.edited("", &format!("m {p} {a} {o}"));
     }
 
     /// Sets all fields that differ from the all-zero record's, which a refused start gives.
@@ -134,27 +141,27 @@ fn starts(s: &mut Script) {
 fn there_and_back(s: &mut Script, name: &str, worked: &Worked) {
     writeln!(s.0, "# {name}").unwrap();
     s.start(worked.config);
-    s.say("picture");
+    s.say("p");
     let mut state = State::start(worked.config);
     for &made in &worked.moves {
         let p = made[0];
         if state.processor(p).position == Position::App {
-            s.short([p, GO, 0]);
+            s.make([p, GO, 0]);
         } else {
-            calls(p).into_iter().for_each(|call| s.short(call));
+            calls(p).into_iter().for_each(|call| s.make(call));
         }
         s.make(made);
-        s.say("picture");
+        s.say("p");
         state.try_move(made).expect("worked moves are accepted");
     }
     s.all(&["front", "hash"]);
     for left in (0..worked.moves.len()).rev() {
-        s.say("back");
+        s.say("b");
         if left % 3 == 0 {
-            s.say("picture");
+            s.say("p");
         }
     }
-    s.all(&["back", "front", "hash"]);
+    s.all(&["b", "front", "hash"]);
 }
 
 /// Creates, yields and exits.
@@ -196,24 +203,25 @@ fn worked_sessions(s: &mut Script) {
     s.say("noise 2");
     there_and_back(s, "K6", &worked::k6());
     there_and_back(s, "K7", &worked::k7());
-    there_and_back(s, "K8 by moves", &worked::k8());
+    there_and_back(s, "K8", &worked::k8());
+    there_and_back(s, "K8 with trylocks", &worked::k8_with_trylocks());
     there_and_back(s, "creates, yields, exits", &creates_yields_exits());
     there_and_back(s, "other outcomes", &other_outcomes());
     for p in 1..=3 {
         there_and_back(s, &format!("processor {p} takes from all queues"), &worked::steals(p));
     }
     there_and_back(s, "threads that join their own queues", &worked::own_queues());
-    s.say("# K8 with its record");
+    s.say("# 16: no moves give this record, at L8");
     s.load(&worked::k8_record());
-    s.all(&["picture", "move 2 0 0", "picture", "front", "back"]);
+    s.all(&["picture", "move 2 0 0", "turn 2", "picture", "front", "back"]);
     s.say("# K9");
     s.played(&Worked::new(Config::new(2, 2, 1, 2)).call(1, LOCK, 1).go(1, 1));
     s.all(&["move 2 3 1", "picture", "move 1 3 1", "picture"]);
-    s.say("# K10 with its records");
-    for applied in [MOST - 1, MOST, MOST + 1] {
+    s.say("# 16 and 15: so many moves are said to stand");
+    for applied in [1, MOST - 1, MOST, MOST + 1] {
         s.say("noise 3");
         s.load(&worked::k10_record(applied));
-        s.all(&["picture", "move 2 0 0", "picture", "hash", "move 2 0 0", "hash"]);
+        s.all(&["picture", "move 2 0 0", "turn 2", "picture", "hash"]);
     }
     s.say("# Run");
     for length in [JOURNAL, JOURNAL - 1] {
@@ -245,15 +253,20 @@ fn wrong_moves(s: &mut Script) {
             for action in [0, 1, 2, 3, 4, 5, 6, 7, 128, 255] {
                 operands.iter().for_each(|&operand| s.try_move([1, action, operand]));
             }
-            s.say("# 8 comes after 2 and 3 and before the rest");
+            s.say("# 16 comes before 2, 3, 8 and the rest, where 4,000 are said to stand");
             s.change(APPLIED, MOST);
-            for made in [[0, 9, 9], [p + 1, GO, 0], [1, 7, 0], [1, GO, 1], [1, LOCK, m + 1]] {
-                s.make(made);
-            }
-            for made in [[1, GO, 0], [1, LOCK, 1], [1, UNLOCK, 1], [1, CREATE, t], [p, EXIT, 0]] {
-                s.make(made);
-            }
+            calls_at_most(s, p, t, m);
         }
+    }
+}
+
+/// Moves that are refused where 4,000 stand: by 2, by 3, by 8 alone and with 4, 5, 6 or 7.
+pub fn calls_at_most(s: &mut Script, p: u8, t: u8, m: u8) {
+    for made in [[0, 9, 9], [p + 1, GO, 0], [1, 7, 0], [1, GO, 1], [1, LOCK, m + 1]] {
+        s.make(made);
+    }
+    for made in [[1, GO, 0], [1, LOCK, 1], [1, UNLOCK, 1], [1, CREATE, t], [p, EXIT, 0]] {
+        s.make(made);
     }
 }
 
@@ -353,7 +366,7 @@ fn steps_back_with_none(s: &mut Script) {
     s.say("# nothing applied, and yet not the start's state");
     s.played(&worked::k5());
     s.change(APPLIED, 0);
-    s.all(&["back", "move 1 1 1", "front", "back"]);
+    s.all(&["back", "move 1 1 1", "turn 1", "front", "back"]);
 }
 
 /// 10 for move, step back and front, before every other number.
@@ -429,17 +442,18 @@ fn damages(fields: &Fields, i: usize, few: bool) -> Vec<u16> {
     values
 }
 
-/// 15 (record): each field of a record damaged, then a step back, the front, the picture, turns
-/// ahead and a move.
+/// 15 and 16: each field of a record changed, then a step back, the front, the picture, turns
+/// ahead, a move and a turn. With more threads or mutexes, or with the other choice of ready queues
+/// where none was used, the same moves give the record.
 fn damaged(s: &mut Script, name: &str, record: &Record, made: Move, few: bool) {
-    writeln!(s.0, "# 15: fields of {name}").unwrap();
+    writeln!(s.0, "# 15, 16: fields of {name}").unwrap();
     s.all(&["keep", "picture"]);
     let fields = Fields::of(record);
     let [p, a, o] = made;
     let looks = if few { "p\nq 1\n" } else { "p\np 0\nq 0\nq 1\nq 33\n" };
     for i in 0..FIELDS {
         for value in damages(&fields, i, few) {
-            write!(s.0, "c {i} {value}\nb\nf\n{looks}m {p} {a} {o}\na\n").unwrap();
+            write!(s.0, "c {i} {value}\nb\nf\n{looks}m {p} {a} {o}\nt {p}\na\n").unwrap();
         }
     }
     s.say("hash");
@@ -471,14 +485,14 @@ fn damaged_records(s: &mut Script) {
     ] {
         s.say("noise 6");
         s.played(&one);
-        let record = Record { snapshot: one.snapshot(), born: one.config.born };
-        damaged(s, name, &record, made, few);
+        damaged(s, name, &one.record(), made, few);
     }
 }
 
-/// 15 (step): a line that would leave the rules, one less, and what comes before it.
+/// Records with a line that would leave the rules, and with one less. No session has them, so 15 is
+/// no number of a step any more: 16 comes before it.
 fn damaging_steps(s: &mut Script) {
-    s.say("# 15: steps");
+    s.say("# 16: steps that would leave the rules");
     for (name, record, p) in worked::steps_out_of_rules() {
         writeln!(s.0, "# at {name}").unwrap();
         s.load(&record);
@@ -500,56 +514,9 @@ fn damaging_steps(s: &mut Script) {
             s.change(thread(2, 0), 2);
             s.change(thread(2, 1), 1);
         }
-        s.all(&["picture", &format!("move {p} 0 0"), "picture", "front", "hash"]);
+        let calls = [format!("move {p} 0 0"), format!("turn {p}")];
+        s.all(&["picture", &calls[0], &calls[1], "front", "hash"]);
     }
-}
-
-/// 16: bytes of the standing moves changed one by one, bytes after them, another journal.
-fn other_journals(s: &mut Script) {
-    for (name, worked) in [("K5", worked::k5()), ("K7", worked::k7())] {
-        writeln!(s.0, "# 16: bytes of {name}").unwrap();
-        s.say("noise 7");
-        s.played(&worked);
-        s.say("keep");
-        let bytes = worked.moves.concat();
-        for (at, &byte) in bytes.iter().enumerate() {
-            for other in [byte ^ 1, byte + 8, 255] {
-                s.write(at, other);
-                s.all(&["back", "again"]);
-            }
-        }
-        for at in [bytes.len(), bytes.len() + 1, JOURNAL - 1, JOURNAL] {
-            s.write(at, 77);
-            s.all(&["back", "picture", "again"]);
-        }
-        s.say("hash");
-    }
-    s.say("# 16: the journal of another session, at a step back and at a move");
-    s.played(&worked::k5());
-    s.say("keep");
-    s.played(&worked::k6());
-    s.all(&["recall", "back", "hash", "front", "move 2 4 0", "hash", "front", "back"]);
-    s.all(&["again", "back", "hash"]);
-    s.say("# 16: the same moves from another start");
-    s.played(&worked::k5());
-    s.say("keep");
-    for (field, value) in [(BORN, 1), (1, 3), (2, 2), (APPLIED, 15), (APPLIED, 17), (STEALING, 1)] {
-        s.change(field, value);
-        s.all(&["back", "again"]);
-    }
-    s.say("noise 8");
-    s.all(&["back", "again", "back", "picture"]);
-    s.say("# 16: another look number, another queue");
-    s.played(&worked::steals(2).front(12));
-    s.say("keep");
-    for value in [0, 1] {
-        s.change(probe(2), value);
-        s.all(&["back", "picture", "again"]);
-    }
-    for (field, value) in [(own_first(1), 0), (own_first(3), 4), (thread(4, 1), 3)] {
-        s.change(field, value);
-    }
-    s.all(&["picture", "back", "move 2 0 0", "again", "back", "picture"]);
 }
 
 /// Random sessions with refused calls and steps back.
@@ -572,7 +539,7 @@ fn random_sessions(s: &mut Script) {
             let state = states.last().expect("a start");
             match driver.next_call(state) {
                 Call::Move(made) => {
-                    s.short(made);
+                    s.make(made);
                     let mut next = state.clone();
                     if next.try_move(made).is_ok() {
                         states.push(next);
@@ -600,7 +567,7 @@ fn longest(s: &mut Script) {
     s.say("noise 9");
     s.start(worked.config);
     for (count, &made) in (1..).zip(&worked.moves) {
-        s.short(made);
+        s.make(made);
         if count % 500 == 0 {
             s.all(&["p", "h"]);
         }
@@ -611,14 +578,14 @@ fn longest(s: &mut Script) {
         s.lend(length);
         s.say("front");
     }
-    s.say("# 16 at the ends of a full journal");
-    let bytes = worked.moves.concat();
-    for at in [0, 1, 2, JOURNAL / 2, JOURNAL - 3, JOURNAL - 2, JOURNAL - 1] {
-        s.write(at, bytes[at] ^ 1);
-        s.all(&["back", "again"]);
-    }
+    s.say("# 16 in a full journal, where a move would be refused by 8");
+    edited_places(s, &worked, &[0, 2_000, 3_999]);
     s.write(JOURNAL, 77);
     s.all(&["back", "picture", "again"]);
+    s.say("# 16 with 3,999 moves");
+    s.all(&["back", "keep"]);
+    edited_places(s, &worked, &[0, 1, 1_333, 3_000, 3_997, 3_998, 3_999]);
+    s.make(worked.moves[3_999]);
     s.say("# steps back from the end, and other moves");
     let less = 100;
     for count in 1..=less {
@@ -637,6 +604,16 @@ fn longest(s: &mut Script) {
     s.all(&["picture", "hash"]);
     full(s);
     s.all(&["back", "picture", "hash", "move 9 9 9", "back", "hash"]);
+}
+
+/// All bytes of some moves changed, each to two others; calls with the last move.
+fn edited_places(s: &mut Script, worked: &Worked, places: &[usize]) {
+    let bytes = worked.moves.concat();
+    for at in places.iter().flat_map(|place| 3 * place..3 * place + 3) {
+        for other in [bytes[at] ^ 1, 255] {
+            s.tried(&format!("w {at} {other}\n"), worked.moves[worked.moves.len() - 1]);
+        }
+    }
 }
 
 /// With 4,000 moves applied: the refused 4,001st, and each length lent.
@@ -666,10 +643,11 @@ pub fn whole() -> String {
     short_journals(s);
     damaged_records(s);
     damaging_steps(s);
-    other_journals(s);
     random_sessions(s);
     chains::add(s);
     longest(s);
-    scripted::add(s);
+    let w = &mut Writer::new(s);
+    scripted::add(w);
+    journals::add(w);
     script.0
 }

@@ -2,103 +2,13 @@
 //! is next, classes and their buffers.
 
 use crate::commands::{processor, ANSWERS, APPLIED, BORN, PICTURES, SCRIPTS, TURNS};
-use crate::script::{table, Script, FIFTHS, LENGTHS, MOST};
+use crate::script::{FIFTHS, LENGTHS, MOST};
+use crate::writer::{picture_length, Writer};
 use independent::journal::JOURNAL;
 use independent::machine::{Config, CREATE, EXIT, LOCK, TRYLOCK, UNLOCK, YIELD};
-use independent::picture;
 use independent::random::Generator;
-use independent::script::{script, Call, SCRIPT};
+use independent::script::{Call, SCRIPT};
 use independent::worked::{self, Worked};
-use std::fmt::Write;
-
-/// Writes the script, and knows what it has put into the buffers.
-struct Writer<'a> {
-    s: &'a mut Script,
-    scripts: [u8; SCRIPTS],
-    turns: [u8; TURNS],
-}
-
-fn picture_length(config: Config) -> usize {
-    picture::length(config.processors, config.threads, config.mutexes)
-}
-
-/// Lines that change bytes to others, three at a time, where they differ.
-fn changes(word: &str, old: &mut [u8], new: &[u8]) -> String {
-    let mut text = String::new();
-    for at in (0..new.len()).step_by(3) {
-        let at = at.min(old.len() - 3);
-        let three: Vec<u8> = (at..at + 3).map(|i| *new.get(i).unwrap_or(&old[i])).collect();
-        if old[at..at + 3] != three {
-            old[at..at + 3].copy_from_slice(&three);
-            let &[a, b, c] = &three[..] else { unreachable!() };
-            writeln!(text, "{word} {at} {a} {b} {c}").unwrap();
-        }
-    }
-    text
-}
-
-impl Writer<'_> {
-    fn say(&mut self, line: &str) {
-        self.s.say(line);
-    }
-
-    fn all(&mut self, lines: &[&str]) {
-        self.s.all(lines);
-    }
-
-    fn init(&mut self, config: Config) {
-        self.say(&format!("init {}", table(config)));
-    }
-
-    /// Puts scripts, as bytes, at the front of their buffer.
-    fn scripts(&mut self, bytes: &[u8]) {
-        let lines = changes("e", &mut self.scripts, bytes);
-        self.s.raw(&lines);
-    }
-
-    fn calls(&mut self, scripts: &[&[Call]]) {
-        let bytes: Vec<u8> = scripts.iter().flat_map(|calls| script(calls)).collect();
-        self.scripts(&bytes);
-    }
-
-    fn script_byte(&mut self, at: usize, byte: u8) {
-        let mut bytes = self.scripts;
-        bytes[at] = byte;
-        self.scripts(&bytes);
-    }
-
-    fn order(&mut self, turns: &[u8]) {
-        let lines = changes("o", &mut self.turns, turns);
-        self.s.raw(&lines);
-    }
-
-    fn lend_scripts(&mut self, length: usize) {
-        self.say(&format!("use {length}"));
-    }
-
-    fn turns(&mut self, processors: &[u8]) {
-        for p in processors {
-            self.say(&format!("t {p}"));
-        }
-    }
-
-    /// A class of so many turns, both buffers of just the length needed.
-    fn drive(&mut self, config: Config, turns: usize) {
-        self.drive_in(turns, turns, turns * picture_length(config));
-    }
-
-    fn drive_in(&mut self, turns: usize, answers: usize, pictures: usize) {
-        self.say(&format!("drive {turns} {answers} {pictures}"));
-    }
-
-    /// A start, a turn and a class with the scripts as they are, all from what was kept.
-    fn probe(&mut self, config: Config) {
-        self.init(config);
-        self.all(&["a", "t 1", "a"]);
-        self.drive(config, 2);
-        self.say("a");
-    }
-}
 
 /// 19: the lengths of the scripts' buffer.
 fn lengths(w: &mut Writer) {
@@ -154,7 +64,7 @@ fn numbers_and_actions(w: &mut Writer) {
     }
 }
 
-/// 1 before 19 at a start; 10, 15, 19, 2, 3, 8 at a turn.
+/// 1 before 19 at a start; 10, 15, 16, 19, 2, 3 at a turn.
 fn order_at_turns(w: &mut Writer) {
     w.say("# 1, then 19");
     w.scripts(&[0; SCRIPTS]);
@@ -175,7 +85,7 @@ fn order_at_turns(w: &mut Writer) {
             w.all(&[&format!("init 3 9 1 8{fifth}"), "picture"]);
         }
     }
-    w.say("# 10, 15, 19, 2, 3, 8, 6");
+    w.say("# 10, 15, 16, 19, 2, 3, 6");
     w.say("noise 11");
     let config = Config::new(2, 3, 1, 2);
     w.calls(&[&[[LOCK, 2]], &[[UNLOCK, 1]], &[]]);
@@ -196,7 +106,7 @@ fn order_at_turns(w: &mut Writer) {
         }
     }
     w.s.lend(JOURNAL + 1);
-    w.say("# 15 at a row 0 and at steps");
+    w.say("# 15 at a row 0, 16 where a step would leave the rules");
     w.s.change(processor(0, 0), 1);
     w.turns(&[0, 1]);
     for (_, record, p) in worked::steps_out_of_rules() {
@@ -292,8 +202,8 @@ fn plain_calls(w: &mut Writer) {
     w.say("front");
 }
 
-/// The same record with two journals, and with journals that do not replay: a turn counts the
-/// calls before the first refused move, a class is refused by 16.
+/// The same record with other journals: a turn and a class count the calls of one that gives the
+/// record, and are refused by 16 with one that does not.
 fn journals(w: &mut Writer) {
     w.say("# one record, other journals");
     let config = Config::new(2, 2, 1, 2);
@@ -386,8 +296,7 @@ fn buffers(w: &mut Writer) {
         let scripts = Generator::new(turns as u64).scripts(config);
         w.scripts(&scripts[..SCRIPT * usize::from(config.threads)]);
         w.lend_scripts(SCRIPTS);
-        w.say(&format!("generate {turns} {}", config.processors + 1));
-        w.turns = [255; TURNS];
+        w.generate(turns as u64, config.processors + 1);
         w.init(config);
         w.say("keep");
         let pictures = turns * length;
@@ -434,7 +343,7 @@ fn random_classes(w: &mut Writer) {
         for part in 1..=8 {
             let most = TURNS.min(PICTURES / picture_length(config));
             let turns = 1 + generator.below(most);
-            w.say(&format!("generate {} {}", 10 * seed + part, p + generator.between(0, 1)));
+            w.generate(10 * seed + part, p + generator.between(0, 1));
             w.drive(config, turns);
             w.all(&["p", "hash"]);
             match part % 3 {
@@ -445,7 +354,6 @@ fn random_classes(w: &mut Writer) {
         }
         w.say("front");
     }
-    w.turns = [255; TURNS];
 }
 
 /// The end of 4,000 moves: turns and classes that reach it, and what comes before 8.
@@ -455,12 +363,7 @@ fn at_the_end(w: &mut Writer) {
     w.calls(&[&[[YIELD, 0], [LOCK, 2]]]);
     w.lend_scripts(SCRIPT);
     w.init(config);
-    w.order(&[2; TURNS]);
-    let mut left = usize::from(MOST) - 4;
-    while left > 0 {
-        w.drive(config, left.min(TURNS));
-        left -= left.min(TURNS);
-    }
+    w.drive_all(config, 2, usize::from(MOST) - 4);
     w.all(&["p", "hash", "keep"]);
     w.say("# the last moves by turns");
     w.turns(&[1, 1, 1, 2, 2, 2, 1, 0, 3]);
@@ -484,9 +387,7 @@ fn at_the_end(w: &mut Writer) {
     w.s.lend(JOURNAL + 1);
 }
 
-/// All of it, behind the rest of the script.
-pub fn add(s: &mut Script) {
-    let w = &mut Writer { s, scripts: [0; SCRIPTS], turns: [0; TURNS] };
+pub fn add(w: &mut Writer) {
     lengths(w);
     numbers_and_actions(w);
     order_at_turns(w);
