@@ -1,7 +1,7 @@
 #!/usr/bin/env bash
 # The benchmark (no test): the proved machine and the independent one in Rust on the same input in one run, both built for release;
 # it prints the time of each and the ratio (above 1: the proved machine is faster). The proved machine is called through its C interface;
-# its checked moves and steps back, which that does not have, are timed in runs of the program measure. It takes about half a minute.
+# its calls on sessions, which that does not have, are timed in runs of the program measure. It takes about half a minute.
 set -euo pipefail
 cd "$(dirname "${BASH_SOURCE[0]}")/.."
 command -v rt >/dev/null || PATH="$PATH:/opt/rattle/bin"

@@ -1,13 +1,8 @@
-// Makes checked moves or steps back many times over, for the benchmark to time.
+// Makes moves or steps back many times over, for the benchmark to time.
 use libc::STDIN_FILENO;
 use libc::STDOUT_FILENO;
 use state::Session;
-
-// The session after all moves, and how many answers were accepted so far.
-struct Made {
-    session: Session,
-    accepted: u64,
-}
+use state::queues::put;
 
 fn byte(bytes: &[u8], i: usize) -> u8 {
     if i < bytes.len() { bytes[i] } else { 0 }
@@ -21,8 +16,8 @@ fn counted(n: u64, refusal: u8) -> u64 {
     if n < 4000000000 { n + 1 } else { n }
 }
 
-// The job's moves, three bytes each from byte 6 on, made from the start of its bytes 2 to 5. before: how many answers were accepted already.
-fn make_all(job: &[u8], journal: &mut [u8], before: u64) -> Made {
+// The job's moves, three bytes each from byte 6 on, made from the start of its bytes 2 to 5. The answer is how many were accepted, with those before.
+fn make_all(job: &[u8], journal: &mut [u8], before: u64) -> u64 {
     let begun = session::start(byte(job, 2), byte(job, 3), byte(job, 4), byte(job, 5), 0);
     let mut session = begun.session;
     let mut accepted = before;
@@ -36,7 +31,7 @@ fn make_all(job: &[u8], journal: &mut [u8], before: u64) -> Made {
         let next = answer.session;
         session = next;
     }
-    Made { session, accepted }
+    accepted
 }
 
 // Job 0: all moves in each round. The answer is how many were accepted.
@@ -44,17 +39,38 @@ fn moves(job: &[u8], rounds: u8, journal: &mut [u8]) -> u64 {
     let mut accepted: u64 = 0;
     let mut left = rounds;
     while left > 0 {
-        let made = make_all(job, journal, accepted);
-        accepted = made.accepted;
+        accepted = make_all(job, journal, accepted);
         left -= 1;
     }
     accepted
 }
 
-// Job 1: all moves once, and in each round the step back from there. The answer is how many were accepted.
+fn copy(from: &[u8], to: &mut [u8]) {
+    for i in 0..from.len() {
+        put(to, i, from[i]);
+    }
+}
+
+// The session after all moves, by one run, with its journal; each made by itself would replay all before it.
+fn replayed(job: &[u8], journal: &mut [u8]) -> Session {
+    let begun = session::start(byte(job, 2), byte(job, 3), byte(job, 4), byte(job, 5), 0);
+    let first = begun.session;
+    if job.len() < 6 {
+        return first;
+    }
+    let moves = &job[6..];
+    copy(moves, journal);
+    let start = first.state;
+    let mut none = [0u16; 1];
+    let done = step::moves::run(start, moves, &mut none);
+    let state = done.state;
+    let initial = first.initial;
+    Session { state, initial }
+}
+
+// Job 1: all moves, and in each round the step back from there. The answer is how many were accepted.
 fn steps_back(job: &[u8], rounds: u8, journal: &mut [u8]) -> u64 {
-    let made = make_all(job, journal, 0);
-    let session = made.session;
+    let session = replayed(job, journal);
     let mut accepted: u64 = 0;
     let mut left = rounds;
     while left > 0 {
@@ -65,12 +81,38 @@ fn steps_back(job: &[u8], rounds: u8, journal: &mut [u8]) -> u64 {
     accepted
 }
 
+// The job's byte that has i - 1 after it.
+fn from_end(job: &[u8], i: usize) -> u8 {
+    let n = job.len();
+    if n < i { 0 } else { byte(job, n - i) }
+}
+
+// Job 2: all moves but the last, and in each round that one from there; the journal holds it already. The answer is how many were accepted.
+fn last_moves(job: &[u8], rounds: u8, journal: &mut [u8]) -> u64 {
+    let all = replayed(job, journal);
+    let before = session::undo(all, journal);
+    let session = before.session;
+    let p = from_end(job, 3);
+    let a = from_end(job, 2);
+    let o = from_end(job, 1);
+    let mut accepted: u64 = 0;
+    let mut left = rounds;
+    while left > 0 {
+        let answer = session::make_move(session, journal, p, a, o);
+        accepted = counted(accepted, answer.refusal);
+        left -= 1;
+    }
+    accepted
+}
+
 fn run(job: &[u8], journal: &mut [u8]) -> u64 {
     let rounds = byte(job, 1);
-    if byte(job, 0) == 0 {
-        return moves(job, rounds, journal);
+    let number = byte(job, 0);
+    match number {
+        0 => moves(job, rounds, journal),
+        1 => steps_back(job, rounds, journal),
+        _ => last_moves(job, rounds, journal),
     }
-    steps_back(job, rounds, journal)
 }
 
 // The input: the job's number, the rounds, P, T, M, B and at most 4,000 moves.

@@ -7,12 +7,13 @@ use differential::classes::Class;
 use differential::sessions::{drive_with, Session};
 use differential::{class, expected, read, replay, replay_with, MOST_PICTURE};
 use independent::journal::JOURNAL;
-use independent::machine::{State, MOST_MOVES};
+use independent::machine::{Move, State, MOST_MOVES};
 use independent::picture;
 use independent::random::{Generator, Rates};
 use independent::record::{Record, Snapshot};
 use independent::script;
 use independent::session::{make_move, start, undo};
+use independent::Answer;
 use std::env;
 use std::hint::black_box;
 use std::io::Write;
@@ -24,9 +25,11 @@ const ROUNDS: usize = 31;
 /// Rounds where the proved side is a program, run twice for each session.
 const PROGRAM_ROUNDS: usize = 11;
 
-/// How often one run makes a session's moves, and how often it steps back from the last.
-const MOVE_ROUNDS: u8 = 10;
-const BACK_ROUNDS: u8 = 100;
+/// How often one run makes the last move of a session, or steps back from it.
+const CALL_ROUNDS: u8 = 100;
+
+/// How many sessions are made move by move, where each move replays all before it.
+const WHOLE_SESSIONS: usize = 3;
 
 /// Nanoseconds that a closure takes.
 fn time(run: &mut dyn FnMut()) -> f64 {
@@ -61,11 +64,23 @@ fn compare_times(
     let (ours, theirs) = (median(ours), median(theirs));
     let a_second = |nanoseconds: f64| 1e9 / nanoseconds;
     println!(
-        "{what:<34} {ours:>10.1} ns {:>12.0}/s   {theirs:>10.1} ns {:>12.0}/s   {:>6.2}",
+        "{what:<36} {:>13} {:>12.0}/s   {:>13} {:>12.0}/s   {:>6.2}",
+        shown(ours),
         a_second(ours),
+        shown(theirs),
         a_second(theirs),
         theirs / ours
     );
+}
+
+/// A time in a unit that suits it.
+fn shown(nanoseconds: f64) -> String {
+    let (unit, name) = match nanoseconds {
+        below if below < 1e4 => (1.0, "ns"),
+        below if below < 1e7 => (1e3, "µs"),
+        _ => (1e6, "ms"),
+    };
+    format!("{:.1} {name}", nanoseconds / unit)
 }
 
 fn replay_in_rust(session: &Session, buffer: &mut [u8]) -> u8 {
@@ -130,6 +145,7 @@ fn compare_classes() {
 enum Job {
     Moves = 0,
     StepBack = 1,
+    LastMove = 2,
 }
 
 /// Nanoseconds of one run of the program, which must count so many accepted answers.
@@ -157,7 +173,7 @@ fn in_program(job: Job, rounds: u8, sessions: &[Session], accepted: usize) -> f6
     sessions.iter().map(spent).sum()
 }
 
-/// The record after a session's moves, each a checked one, with its journal.
+/// Makes a session's moves one by one.
 fn make_in_rust(session: &Session, journal: &mut [u8]) -> Record {
     let mut record = start(expected::config(session.table)).value;
     for made in session.moves.chunks_exact(3) {
@@ -168,40 +184,68 @@ fn make_in_rust(session: &Session, journal: &mut [u8]) -> Record {
     record
 }
 
-/// The lines on a session's calls, over sessions of 4,000 moves. Both sides go through all rounds
-/// of a session before the next.
-fn compare_sessions(sessions: &[Session]) {
-    let most = usize::from(MOST_MOVES);
-    assert!(sessions.iter().all(|session| session.moves.len() == 3 * most));
-    let mut journal = [0; JOURNAL];
+/// A line on a call at each session's end, which is handed the record after so many moves, the
+/// journal of all and the last of them.
+fn compare_last(
+    what: &str,
+    job: Job,
+    sessions: &[Session],
+    moves: usize,
+    call: impl Fn(&Record, &mut [u8], Move) -> Answer<Record>,
+) {
+    let lent = |Session { states, table, moves: journal, .. }: &Session| {
+        (Record::of(&states[moves], table[3]), journal.clone())
+    };
+    let mut lent: Vec<(Record, Vec<u8>)> = sessions.iter().map(lent).collect();
     compare_times(
-        "a checked move",
+        what,
         PROGRAM_ROUNDS,
-        usize::from(MOVE_ROUNDS) * most * sessions.len(),
-        || in_program(Job::Moves, MOVE_ROUNDS, sessions, most),
+        usize::from(CALL_ROUNDS) * sessions.len(),
+        || in_program(job, CALL_ROUNDS, sessions, 1),
         || {
             time(&mut || {
-                for session in sessions {
-                    for _ in 0..MOVE_ROUNDS {
-                        black_box(make_in_rust(session, &mut journal));
+                for (record, journal) in &mut lent {
+                    let last = [0, 1, 2].map(|i| journal[JOURNAL - 3 + i]);
+                    for _ in 0..CALL_ROUNDS {
+                        let answer = call(black_box(record), journal, last);
+                        assert_eq!(black_box(answer).number, 0);
                     }
                 }
             })
         },
     );
-    let made: Vec<(Record, [u8; JOURNAL])> =
-        sessions.iter().map(|session| (make_in_rust(session, &mut journal), journal)).collect();
-    compare_times(
+}
+
+/// The lines on a session's calls, over sessions of 4,000 moves. Both sides go through all rounds
+/// of a session before the next.
+fn compare_sessions(sessions: &[Session]) {
+    let most = usize::from(MOST_MOVES);
+    assert!(sessions.iter().all(|session| session.moves.len() == JOURNAL));
+    compare_last(
+        "the 4,000th move, its journal tested",
+        Job::LastMove,
+        sessions,
+        most - 1,
+        make_move,
+    );
+    compare_last(
         "a step back from 4,000 moves",
+        Job::StepBack,
+        sessions,
+        most,
+        |record, journal, _| undo(record, journal),
+    );
+    let few = &sessions[..WHOLE_SESSIONS];
+    let mut journal = [0; JOURNAL];
+    compare_times(
+        "a session of 4,000 moves",
         PROGRAM_ROUNDS,
-        usize::from(BACK_ROUNDS) * sessions.len(),
-        || in_program(Job::StepBack, BACK_ROUNDS, sessions, 1),
+        few.len(),
+        || in_program(Job::Moves, 1, few, most),
         || {
             time(&mut || {
-                for (record, journal) in &made {
-                    for _ in 0..BACK_ROUNDS {
-                        assert_eq!(black_box(undo(black_box(record), journal)).number, 0);
-                    }
+                for session in few {
+                    black_box(make_in_rust(session, &mut journal));
                 }
             })
         },
@@ -246,7 +290,7 @@ fn main() {
     let moves: usize = sessions.iter().map(|session| session.moves.len() / 3).sum();
     let (mut ours, mut theirs) = ([0; MOST_PICTURE], [0; MOST_PICTURE]);
 
-    println!("{:<34} {:>13} {:>14}   {:>13} {:>14}   {:>6}", "", "proved", "", "rust", "", "ratio");
+    println!("{:<36} {:>13} {:>14}   {:>13} {:>14}   {:>6}", "", "proved", "", "rust", "", "ratio");
     compare(
         "a move of a whole replay",
         moves,
