@@ -560,7 +560,7 @@ fn random_sessions(s: &mut Script) {
     }
 }
 
-/// 4,000 moves, the refused ones after them, steps back from the end, other moves again.
+/// 4,000 moves, the refused ones after them, edited journals, steps back from the end, other moves.
 fn longest(s: &mut Script) {
     s.say("# 4,000 moves");
     let worked = random(Config::new(8, 32, 8, 24), 9, usize::from(MOST));
@@ -586,6 +586,13 @@ fn longest(s: &mut Script) {
     s.all(&["back", "keep"]);
     edited_places(s, &worked, &[0, 1, 1_333, 3_000, 3_997, 3_998, 3_999]);
     s.make(worked.moves[3_999]);
+    other_end(s, &worked);
+    full(s);
+    s.all(&["back", "picture", "hash", "move 9 9 9", "back", "hash"]);
+}
+
+/// Steps back from the end of 4,000 moves, and others in their place.
+fn other_end(s: &mut Script, worked: &Worked) {
     s.say("# steps back from the end, and other moves");
     let less = 100;
     for count in 1..=less {
@@ -602,8 +609,6 @@ fn longest(s: &mut Script) {
         s.make(made);
     }
     s.all(&["picture", "hash"]);
-    full(s);
-    s.all(&["back", "picture", "hash", "move 9 9 9", "back", "hash"]);
 }
 
 /// All bytes of some moves changed, each to two others; calls with the last move.

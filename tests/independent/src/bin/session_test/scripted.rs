@@ -64,8 +64,8 @@ fn numbers_and_actions(w: &mut Writer) {
     }
 }
 
-/// 1 before 19 at a start; 10, 15, 16, 19, 2, 3 at a turn.
-fn order_at_turns(w: &mut Writer) {
+/// 1 before 19 at a start.
+fn order_at_starts(w: &mut Writer) {
     w.say("# 1, then 19");
     w.scripts(&[0; SCRIPTS]);
     for length in [0, SCRIPTS] {
@@ -85,6 +85,10 @@ fn order_at_turns(w: &mut Writer) {
             w.all(&[&format!("init 3 9 1 8{fifth}"), "picture"]);
         }
     }
+}
+
+/// 10, 15, 16, 19, 2, 3 at a turn.
+fn order_at_turns(w: &mut Writer) {
     w.say("# 10, 15, 16, 19, 2, 3, 6");
     w.say("noise 11");
     let config = Config::new(2, 3, 1, 2);
@@ -244,6 +248,11 @@ fn journals(w: &mut Writer) {
         w.drive(config, 3);
         w.all(&["front", "a"]);
     }
+    other_records(w, config);
+}
+
+/// What was kept with another B, and with another number of moves.
+fn other_records(w: &mut Writer, config: Config) {
     w.say("# another B, another number of moves");
     for (field, value) in [(BORN, 1), (APPLIED, 0), (APPLIED, 3), (APPLIED, 5)] {
         w.s.change(field, value);
@@ -390,6 +399,7 @@ fn at_the_end(w: &mut Writer) {
 pub fn add(w: &mut Writer) {
     lengths(w);
     numbers_and_actions(w);
+    order_at_starts(w);
     order_at_turns(w);
     next_calls(w);
     tried_again(w);
