@@ -1,7 +1,6 @@
 -- An accepted call leaves a session's record and journal, whoever wrote those that it was handed: of the contracts.
 -- Assumes nothing.
 use Prim.Native.Nat.{ℕ, _*_}
-use mathlib.Core.Bool.{true}
 use mathlib.Core.List.{List}
 use mathlib.Core.Path.{_≡_, sym, ap, _∙_}
 use lib.ListN.{length, take}
@@ -10,7 +9,6 @@ use Rattle.state.specs.Association.{session-record}
 use Rattle.reference.specs.Start.{Config, start}
 use Rattle.reference.specs.Step.{Move, run}
 use Rattle.reference.specs.Cause.{accepted}
-use Rattle.reference.specs.Safe.{Safe}
 use Rattle.reference.specs.Session.{Request, own, bytes, accept}
 use Rattle.reference.proofs.Laws.{safe}
 use Rattle.session.specs.Contract.{config-of, standing}

@@ -18,7 +18,7 @@ use Rattle.reference.specs.Cause.{cause, accepted}
 use Rattle.reference.specs.Session.{move, turn, other, Call, all-but-last}
 use Rattle.session.specs.Contract.{shown, config-of, answered, or-later, lent-refusal, standing, matches, written-at}
 use Rattle.turns.specs.Contract.{turn-made}
-use Rattle.claim.specs.Implementation.{Outcome, Implementation, outcome}
+use Rattle.claim.specs.Implementation.{Outcome, Implementation, outcome, calls}
 use Rattle.claim.specs.Demand3.{Demand3}
 use Rattle.claim.specs.Sound.{Sound}
 use Rattle.claim.proofs.Sample.{long, after-moves}
@@ -118,6 +118,21 @@ unfolding last-unreplayed made-unless computing
 last-unreplayed-unsound d =
     let n : false ≡ true = d locked long (move go) refl .legal-before in
     true≢false (sym n)
+
+-- ---- An accepted move leaves the start's record: record and journal agree, and the moves are lost.
+
+forgets-moves : Implementation
+forgets-moves =
+    with-move
+    (λ r j a.
+    let o : Outcome = calls r j (move a) in
+    outcome (answered (o .refusal) (session-record (start (config-of r)) (r .initial)) r) j [])
+
+forgets-moves-unsound : ¬ (Sound forgets-moves)
+unfolding forgets-moves computing
+forgets-moves-unsound d =
+    let n : _≡_ {A = ℕ} 0 1 = ap (λ (l : List Move). length l) (d (after-start one []) long (move lock-move) refl .made) in
+    omega arith
 
 -- ---- A move tries 16 after 2, a turn tries it after 19.
 

@@ -16,7 +16,6 @@ use Rattle.state.proofs.Branch.{if-none, if-some}
 use lib.Dec.{eqb}
 use borrow.Author.Tests.{eq-eqb}
 use Rattle.reference.specs.Lists.{choose}
-use Rattle.session.proofs.Undone.{config-right}
 use Rattle.reference.specs.Start.{Config, config-cause, start}
 use Rattle.reference.specs.Step.{Move}
 use Rattle.reference.specs.Cause.{accepted}
@@ -95,11 +94,10 @@ module _ (r : Session) (size : Sized (r .state)) (j x ps : List ℕ) where
   class-printed a b none e f =
       let c = config-of r in
       let ms = standing r j in
-      let right = config-right r size (fine r size j x ps (zeros 1024) (zeros 303104) none .record-ok) in
-      let ok = agree r size j x ps (zeros 1024) (zeros 303104) none .legal in
+      let t = agree r size j x ps (zeros 1024) (zeros 303104) none in
       let answers = class-answers c x ms ps in
       let pictures = class-pictures c x ms ps in
       let ea : a ≡ answers ++ drop (length answers) (zeros 1024) = e ∙ sym (choose-zero refusal _ _ none) in
       let eb : b ≡ pictures ++ drop (length pictures) (zeros 303104) = f ∙ sym (choose-zero refusal _ _ none) in
       let front : take (length ps) a ≡ answers = ap (take (length ps)) ea ∙ take-at answers _ (length ps) (answers-length c x ps ms) in
-      rw (front, eb) (lines-of c right x ps ms (drop (length pictures) (zeros 303104)) ok) ∙ sym (if-none refusal _ _ none)
+      rw (front, eb) (lines-of c (t .config) x ps ms (drop (length pictures) (zeros 303104)) (t .legal)) ∙ sym (if-none refusal _ _ none)

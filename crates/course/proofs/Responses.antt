@@ -7,7 +7,7 @@ use mathlib.Core.List.{List, [], _∷_, _++_}
 use lib.Dec.{lit≤, leb, ltb}
 use lib.ListN.{length, take, drop, length-append}
 use lib.Seq.{take-at, take-all, length-take-le}
-use borrow.Author.Tests.{le-leb, leb-true, leb-false, ltb-false, not-false}
+use borrow.Author.Tests.{leb-true, leb-false, ltb-false, not-false}
 use Rattle.command.specs.Printing.{text, hundredths, line-feed, buffer-of, add}
 use Rattle.command.specs.Transcript.{Held}
 use Rattle.command.specs.Request.{Ask, plain, script, turn, turns, view, chart, mark, mark-own, help}
@@ -19,20 +19,21 @@ use Rattle.command.proofs.Held.{held-length}
 use Rattle.command.proofs.Grammar.{course-grammar-holds}
 use Rattle.command.proofs.Transcript.{printed, printed-fits}
 use Rattle.state.specs.declared.Session.{Session}
-use Rattle.state.specs.Rules.{state-ok, session-ok}
-use Rattle.reference.specs.Lists.{if-zero, in-range}
+use Rattle.state.specs.Rules.{session-ok}
+use Rattle.reference.specs.Lists.{if-zero}
 use Rattle.reference.specs.Start.{Config, config-cause, start}
 use Rattle.reference.specs.Step.{Move}
 use Rattle.reference.specs.Cause.{accepted}
 use Rattle.reference.specs.Picture.{picture}
 use Rattle.reference.specs.Script.{turn-cause, turn-after}
-use Rattle.reference.specs.Session.{picture-size, state-of, lacks-room, replays}
-use Rattle.reference.proofs.Tests.{passed, both-left, both-right, range-true, true-range}
+use Rattle.reference.specs.Session.{picture-size, state-of, lacks-room}
+use Rattle.reference.proofs.Tests.{passed}
 use Rattle.reference.proofs.Script.{accepted-turn}
-use Rattle.shown.proofs.Kept.{Fields, state-kept, fields-say}
+use Rattle.shown.proofs.Kept.{state-kept, fields-say}
 use Rattle.session.specs.Contract.{config-of, standing, lent-refusal, matches}
-use Rattle.session.proofs.Answers.{lent-passed}
-use Rattle.session.proofs.Holding.{or-passed}
+use Rattle.session.proofs.Answers.{or-passed, lent-passed}
+use Rattle.session.proofs.Undone.{state-right}
+use Rattle.session.proofs.Holding.{agrees}
 use Rattle.session.proofs.Shown.{picture-long}
 use Rattle.turns.specs.Contract.{turned, class-refusal}
 use Rattle.shell.specs.Answers.{number, question-mark}
@@ -51,27 +52,9 @@ number-length n = simp length-append (omega (arith, decimal-length n))
 
 -- ---- a class
 
--- what the record says of its numbers, and that its start table is in range
-module _ (r : Session) (ok : session-ok r ≡ true) where
-  fields : Fields (r .state)
-  unfolding session-ok
-  fields = fields-say (r .state) (state-kept (r .state) (both-left (state-ok (r .state)) (in-range 1 (r .state .t) (r .initial)) ok) .fields)
-
-  right : config-cause (config-of r) ≡ 0
-  unfolding config-cause session-ok
-  right =
-      let f = fields in
-      let b = range-true 1 (r .state .t) (r .initial) (both-right (state-ok (r .state)) (in-range 1 (r .state .t) (r .initial)) ok) in
-      rw (
-        true-range 1 8 (r .state .p) (f .p-range .0) (f .p-range .1),
-        true-range 1 32 (r .state .t) (f .t-range .0) (f .t-range .1),
-        true-range 1 8 (r .state .m) (f .m-range .0) (f .m-range .1),
-        true-range 1 (r .state .t) (r .initial) (b .0) (b .1),
-        le-leb (r .state .stealing) 1 (f .stealing),
-      )
-
-  small : picture-size (config-of r) ≤ 296
-  small = let f = fields in omega (arith, f .p-range .1, f .t-range .1, f .m-range .1)
+-- the pictures of a record that keeps the rules are short
+small : (r : Session) → session-ok r ≡ true → picture-size (config-of r) ≤ 296
+small r ok = let f = fields-say (r .state) (state-kept (r .state) (state-right r ok) .fields) in omega (arith, f .p-range .1, f .t-range .1, f .m-range .1)
 
 lines-length : (c : Config) → config-cause c ≡ 0 → picture-size c ≤ 296 → (x ps : List ℕ) (ms : List Move) → accepted (start c) ms ≡ true → length (class-lines c x ms ps) ≤ 597 * length ps
 unfolding class-lines
@@ -87,7 +70,7 @@ neither true b e = e
 neither false b e = refl
 
 class-text-length : (r : Session) (j x ps : List ℕ) → length (class-text r j x ps) ≤ 611328
-unfolding class-text class-refusal matches replays
+unfolding class-text class-refusal
 class-text-length r j x ps = go (class-refusal r j x ps (zeros 1024) (zeros 303104)) refl
   where
     go : (n : ℕ) → class-refusal r j x ps (zeros 1024) (zeros 303104) ≡ n → length (if-zero n (class-lines (config-of r) x (standing r j) ps) (number n)) ≤ 611328
@@ -95,10 +78,9 @@ class-text-length r j x ps = go (class-refusal r j x ps (zeros 1024) (zeros 3031
         let first = or-passed (lent-refusal r (length j)) _ e in
         let second = passed (lacks-room (config-of r) (length ps) (zeros 1024) (zeros 303104)) _ _ (first .1) in
         let third = passed (not (matches r j)) _ _ (second .1) in
-        let ok = lent-passed r (length j) (first .0) .1 in
         let few : length ps ≤ 1024 = omega (arith, ltb-false (length (zeros 1024)) (length ps) (neither (ltb (length (zeros 1024)) (length ps)) _ (second .0)), zeros-long 1024) in
-        let legal = both-left (accepted (start (config-of r)) (standing r j)) _ (not-false _ (third .0)) in
-        omega (arith, lines-length (config-of r) (right r ok) (small r ok) x ps (standing r j) legal)
+        let t = agrees r j (first .0) (not-false _ (third .0)) in
+        omega (arith, lines-length (config-of r) (t .config) (small r (lent-passed r (length j) (first .0) .1)) x ps (standing r j) (t .legal))
     go (suc n) e = omega (arith, number-length (suc n))
 
 -- ---- any line

@@ -18,7 +18,8 @@ use Rattle.reference.specs.Cause.{accepted}
 use Rattle.reference.specs.Script.{scripts-cause, class-answers, class-pictures}
 use Rattle.reference.specs.Session.{bytes, short, lacks-room}
 use Rattle.session.specs.Contract.{config-of, or-later, standing}
-use Rattle.session.proofs.Holding.{Holds, or-passed, config-is, standing-is}
+use Rattle.session.proofs.Answers.{or-passed}
+use Rattle.session.proofs.Holding.{Holds, config-is, standing-is}
 use Rattle.session.proofs.Numbers.{lent-number, own-replays}
 use Rattle.turns.specs.Contract.{scripted, class-refusal, classed, answers-after, pictures-after}
 

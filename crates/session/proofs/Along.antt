@@ -3,7 +3,7 @@
 use Prim.Native.Nat.{ℕ, _≤_}
 use mathlib.Core.Bool.{Bool, true, false}
 use mathlib.Core.List.{List, [], _∷_, _++_}
-use mathlib.Core.Path.{_≡_, refl, sym, ap, _∙_, subst, transport}
+use mathlib.Core.Path.{_≡_, refl, _∙_, subst, transport}
 use native.Mathlib.Omega.{arith}
 use lib.Dec.{eqb}
 use lib.ListN.{length}
@@ -17,7 +17,7 @@ use Rattle.reference.specs.Step.{Move, next, run}
 use Rattle.reference.specs.Cause.{cause, accepted}
 use Rattle.reference.specs.Session.{bytes, state-of}
 use Rattle.reference.proofs.Moves.{run-snoc}
-use Rattle.session.specs.Contract.{started, move-refusal, moved, journal-after}
+use Rattle.session.specs.Contract.{started, moved, journal-after}
 use Rattle.session.specs.Worked.{refusals, record-after}
 use Rattle.session.proofs.Holding.{Holds, Leaves, config-is, standing-is, move-agrees, move-leaves}
 use Rattle.session.proofs.Numbers.{own-replays, move-number}

@@ -14,7 +14,7 @@ use Rattle.reference.specs.Step.{Move}
 use Rattle.reference.specs.Cause.{cause}
 use Rattle.reference.specs.Session.{moves, short, replays, state-of}
 use Rattle.reference.proofs.Same.{same-state-exact}
-use Rattle.session.specs.Contract.{shown, lent-refusal, or-later, matches, test-refusal, move-refusal, undo-refusal}
+use Rattle.session.specs.Contract.{lent-refusal, or-later, matches, test-refusal, move-refusal, undo-refusal}
 use Rattle.session.proofs.Reached.{never-broken}
 use Rattle.session.proofs.Standing.{moves-front}
 use Rattle.session.proofs.Shown.{record-right}

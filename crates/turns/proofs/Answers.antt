@@ -13,7 +13,6 @@ use borrow.Author.Tests.{ne-eqb, lt-ltb, le-ltb, ltb-true, ltb-false}
 use Rattle.state.specs.declared.State.{State as Record}
 use Rattle.state.specs.declared.Session.{Session}
 use Rattle.state.specs.Record.{zero-session, processor-of, Sized}
-use Rattle.step.specs.declared.Moved.{Moved}
 use Rattle.step.specs.model.Moves.{moved-of}
 use Rattle.session.specs.declared.Answer.{Answer}
 use Rattle.session.specs.declared.Tested.{Tested}

@@ -1,6 +1,6 @@
 -- `turns::turn` meets its contract.
 -- Assumes nothing.
-use mathlib.Core.Path.{refl, sym, ap, _∙_}
+use mathlib.Core.Path.{sym, ap, _∙_}
 use borrow.Author.Needs.{needs}
 use Rattle.state.proofs.Sized.{session-sized}
 use Rattle.session.specs.declared.Tested.{Tested}
