@@ -52,6 +52,11 @@ pub or-passed : (x y : ℕ) → or-later x y ≡ 0 → (x ≡ 0) × (y ≡ 0)
 or-passed zero y e = (refl, e)
 or-passed (suc x) y e = absurd (omega arith)
 
+-- a cause that is there hides the later ones
+pub or-first : (n m k : ℕ) → n ≡ m → (n ≡ 0 → ⊥) → n ≡ or-later m k
+or-first zero m k e h = absurd (h refl)
+or-first (suc n) m k e h = rw (← e)
+
 -- ---- the first causes of a call that is lent a journal
 
 module _ (r : Session) (n : ℕ) where
@@ -83,15 +88,10 @@ test-passed r j e =
 -- ---- move
 
 module _ (r : Session) (j : List ℕ) (a : Move) where
-  first-number : (n : ℕ) → n ≡ test-refusal r j → (n ≡ 0 → ⊥) → n ≡ move-refusal r j a
-  unfolding move-refusal
-  first-number zero e h = absurd (h refl)
-  first-number (suc n) e h = rw (← e)
-
   -- 10, 15 or 16: the record handed in, and the journal as it was
   pub move-untested : (n : ℕ) → n ≡ test-refusal r j → (n ≡ 0 → ⊥) → (record { refusal = n; session = r } ≡ moved r j a) × (j ≡ journal-after r j a)
-  unfolding moved journal-after
-  move-untested n e h = let m = first-number n e h in (rw (← m, ne-eqb n 0 h), rw (← m, ne-eqb n 0 h))
+  unfolding move-refusal moved journal-after
+  move-untested n e h = let m : n ≡ move-refusal r j a = or-first n (test-refusal r j) _ e h in (rw (← m, ne-eqb n 0 h), rw (← m, ne-eqb n 0 h))
 
   module _ (size : Sized (r .state)) (free : test-refusal r j ≡ 0) (made : Moved)
       (e : made ≡ moved-of (r .state) (a .processor) (a .action) (a .operand)) where

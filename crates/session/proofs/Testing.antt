@@ -16,7 +16,8 @@ use Rattle.reference.specs.Session.{replays}
 use Rattle.reference.proofs.Tests.{both-left}
 use Rattle.session.specs.Contract.{config-of, lent-refusal, standing, matches, test-refusal, tested}
 use Rattle.session.specs.model.Replay.{counted-in}
-use Rattle.session.proofs.Answers.{lent-passed, test-passed}
+use Rattle.state.proofs.Branch.{if-some}
+use Rattle.session.proofs.Answers.{or-first, lent-passed, test-passed}
 use Rattle.session.proofs.Counted.{calls-of, counted-is}
 use Rattle.session.proofs.Undone.{config-right, applied-most}
 
@@ -28,8 +29,7 @@ module _ (r : Session) (j : List ℕ) where
   -- 10 or 15
   pub test-lent : (n : ℕ) → n ≡ lent-refusal r (length j) → (n ≡ 0 → ⊥) → (calls : List ℕ) → (n ≡ test-refusal r j) × (calls ≡ counts calls)
   unfolding test-refusal
-  test-lent zero e h calls = absurd (h refl)
-  test-lent (suc n) e h calls = rw (← e) (refl, refl)
+  test-lent n e h calls = (or-first n (lent-refusal r (length j)) _ e h, sym (if-some (lent-refusal r (length j)) _ calls (λ z. h (e ∙ z))))
 
   -- 16, or none
   pub test-by : lent-refusal r (length j) ≡ 0 → (b : Bool) → b ≡ matches r j → (calls after : List ℕ) → after ≡ counted-in r j calls →

@@ -1,7 +1,7 @@
 -- What a replay of the journal and a step back find, case by case: the shape in which the code arrives at it.
 -- Assumes nothing.
-use Prim.Native.Nat.{ℕ, zero, suc, _+_, _-_, _*_, _≤_}
-use mathlib.Core.Bool.{Bool, true, false, not, true≢false}
+use Prim.Native.Nat.{ℕ, _+_, _-_, _*_, _≤_}
+use mathlib.Core.Bool.{Bool, true, false, _&&_, not, true≢false}
 use mathlib.Core.List.{List}
 use mathlib.Core.Path.{_≡_, refl, sym, ap, _∙_}
 use native.Mathlib.Omega.{arith}
@@ -33,7 +33,7 @@ use Rattle.shown.proofs.Reached.{reached-allowed}
 use Rattle.shown.proofs.Unique.{session-held}
 use Rattle.session.specs.Contract.{shown, config-of, lent-refusal, standing, matches, undo-refusal, undone}
 use Rattle.session.specs.model.Replay.{Replays}
-use Rattle.session.proofs.Answers.{lent-passed}
+use Rattle.session.proofs.Answers.{or-first, lent-passed}
 use Rattle.session.proofs.Replayed.{Made, made-all, moves-but-last}
 
 -- ---- a record that keeps the rules
@@ -128,7 +128,7 @@ module _ (r : Session) (size : Sized (r .state)) (j : List ℕ) (free : lent-ref
   unfolding matches replays decode
   unmatched z =
       let e : accepted (start c) (moves n j) ≡ false = sym (made n journal-long .accepts) ∙ ne-eqb (all .refusal) 0 z in
-      rw e
+      sym (ap (λ (b : Bool). b && same-state (run (start c) (moves n j)) (shown r)) e)
 
   none : (s : Record) → (all .refusal ≡ 0 → ⊥) → Replays r j k (record { agrees = false; state = s })
   none s z = record { agrees = unmatched z; state = λ x. absurd (true≢false (sym x)) }
@@ -194,8 +194,7 @@ module _ (r : Session) (j : List ℕ) where
 
   pub undo-lent : (n : ℕ) → n ≡ lent-refusal r (length j) → (n ≡ 0 → ⊥) → record { refusal = n; session = r } ≡ undone r j
   unfolding undo-refusal
-  undo-lent zero e h = absurd (h refl)
-  undo-lent (suc n) e h = undo-kept (suc n) (rw (← e)) h
+  undo-lent n e h = undo-kept n (or-first n (lent-refusal r (length j)) _ e h) h
 
   applied-shown : shown r .applied ≡ r .state .applied
   unfolding decode

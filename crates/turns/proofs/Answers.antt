@@ -24,7 +24,7 @@ use Rattle.reference.specs.Script.{scripts-ok, scripts-cause}
 use Rattle.reference.specs.Session.{lacks-room}
 use Rattle.session.specs.Contract.{shown, config-of, started, or-later, lent-refusal, matches, test-refusal, tested, progress-in, move-refusal, moved, journal-after}
 use Rattle.session.specs.model.Replay.{stored}
-use Rattle.session.proofs.Answers.{or-passed, lent-passed, test-passed, made-answer, made-journal}
+use Rattle.session.proofs.Answers.{or-passed, or-first, lent-passed, test-passed, made-answer, made-journal}
 use Rattle.session.proofs.Undone.{state-right}
 use Rattle.turns.specs.Contract.{scripted, turn-made, turn-refusal, turned, turn-journal, class-refusal, classed, class-journal, answers-after, pictures-after}
 use Rattle.turns.specs.declared.made.Made.{Made}
@@ -80,8 +80,7 @@ module _ (r : Session) (j x : List ℕ) (p : ℕ) where
   -- 10, 15 or 16
   pub turn-untested : (n : ℕ) → n ≡ test-refusal r j → (n ≡ 0 → ⊥) → Kept n
   unfolding turn-refusal
-  turn-untested zero e h = absurd (h refl)
-  turn-untested (suc n) e h = turn-kept (suc n) (rw (← e)) h
+  turn-untested n e h = turn-kept n (or-first n (test-refusal r j) _ e h) h
 
   module _ (free : test-refusal r j ≡ 0) where
     pub turn-unscripted : scripts-ok (r .state .t) x ≡ false → Kept 19
@@ -140,11 +139,6 @@ module _ (r : Session) (j x : List ℕ) (p : ℕ) where
             made-journal r j a size free (record { refusal = t .refusal; state = t .state }) moved-is ∙ turn-written
 
 -- ---- class
-
--- a cause that is there hides the later ones
-pub lent-first : (n m k : ℕ) → n ≡ m → (n ≡ 0 → ⊥) → n ≡ or-later m k
-lent-first zero m k e h = absurd (h refl)
-lent-first (suc n) m k e h = rw (← e)
 
 -- a quotient is below n where the number is below n times the divisor
 room-is : (b s n : ℕ) → 0 < s → ltb (b / s) n ≡ ltb b (n * s)

@@ -3,12 +3,13 @@
 use mathlib.Core.Path.{sym, _∙_}
 use native.Mathlib.Omega.{arith}
 use borrow.Author.Needs.{needs}
-use Rattle.turns.proofs.Answers.{lent-first, unfit-some, unfit-none}
+use Rattle.session.proofs.Answers.{or-first}
+use Rattle.turns.proofs.Answers.{unfit-some, unfit-none}
 use Rattle.turns.proofs.sequence.unfit.Statement.{statement}
 use Rattle.turns.proofs.sequence.unfit.Tie as tie
 
 returns : tie.Need-returns
-returns c = lent-first (c .before .lent .result) _ _ (c .before .lent .ensures) (c .if1 .taken)
+returns c = or-first (c .before .lent .result) _ _ (c .before .lent .ensures) (c .if1 .taken)
 
 returns-2 : tie.Need-returns-2
 returns-2 c =
