@@ -7,6 +7,7 @@ use picture::answer::Ahead;
 use session::Answer;
 use state::Session;
 use state::State;
+use state::queues::get;
 
 fn text(bytes: &[u8]) {
     io::write_all(STDOUT_FILENO, bytes);
@@ -148,6 +149,29 @@ fn make_move(session: Session, lent: isize, line: Line, journal: &mut [u8]) -> S
     report(session, answer, alike)
 }
 
+// The move's refusal where byte i of the journal is raised for it, round from 255 to 0.
+fn edited(session: Session, lent: isize, line: Line, journal: &mut [u8], i: usize) -> u8 {
+    let b = get(journal, i);
+    put(journal, i, low_byte(b as u64 + line.byte(1) as u64));
+    let n = io::count(lent, journal);
+    let p = line.byte(2);
+    let a = line.byte(3);
+    let o = line.byte(4);
+    let answer = session::make_move(session, &mut journal[..n], p, a, o);
+    put(journal, i, b);
+    answer.refusal
+}
+
+// A number that stands for the refusals where each byte of the standing moves is raised in turn.
+fn sweep(session: Session, lent: isize, line: Line, journal: &mut [u8]) -> u64 {
+    let state = session.state;
+    let mut x: u64 = 0;
+    for i in 0..3 * (state.applied as usize) {
+        x = mixed(x, edited(session, lent, line, journal, i));
+    }
+    x
+}
+
 fn back(session: Session, lent: isize, journal: &[u8]) -> Session {
     let n = io::count(lent, journal);
     let before = hash(journal);
@@ -175,6 +199,7 @@ fn look(session: Session, lent: isize, line: Line, journal: &mut [u8], kept: &mu
         b'p' => picture(session, room(line)),
         b'q' => ahead(session, line.byte(1)),
         b'h' => number(hash(journal), b"\n"),
+        b'j' => number(sweep(session, lent, line, journal), b"\n"),
         b'w' => put(journal, line.number(1) as usize, line.byte(2)),
         b'n' => noise(line.number(1), journal),
         b'k' => copy(journal, kept),

@@ -9,6 +9,9 @@
 //! - `picture`, or `picture n` for a buffer of n bytes: the picture or its refusal, and B.
 //! - `queue t`: the turns ahead of thread t, `-` where it does not wait, `r` before a refusal.
 //! - `hash`: a number that stands for the journal's 12,001 bytes.
+//! - `journal v p a o`: a number that stands for the refusals of a move where each byte of the
+//!   standing moves is raised by v in turn, round from 255 to 0. An accepted one is left behind
+//!   them.
 //! - `lend n`: so many of the journal's bytes are lent from now on.
 //! - `keep`: the record and the journal are stored; `again`: both are brought back;
 //!   `recall`: the record alone is.
@@ -332,6 +335,21 @@ impl Runner {
         self.report(answer, &before);
     }
 
+    fn sweep(&mut self, raise: u8, made: [u8; 3]) {
+        let record = self.fields.record();
+        let mut refusals = Vec::new();
+        for i in 0..3 * usize::from(self.fields.at(APPLIED)) {
+            let byte = self.journal[i];
+            self.journal[i] = byte.wrapping_add(raise);
+            let lent = &mut self.journal[..self.lent];
+            let answer = record.map(|record| session::make_move(&record, lent, made).number);
+            refusals.push(answer.unwrap_or(self.unreadable()));
+            self.journal[i] = byte;
+        }
+        let hash = hash(&refusals);
+        self.line(format_args!("{hash}"));
+    }
+
     fn undo(&mut self) {
         let before = self.journal.clone();
         let lent = &self.journal[..self.lent];
@@ -398,6 +416,7 @@ impl Runner {
             b'p' => self.picture(numbers.first().map_or(296, |&n| usize::from(n))),
             b'q' => self.queue(byte(0)),
             b'h' => self.hash(),
+            b'j' => self.sweep(byte(0), [byte(1), byte(2), byte(3)]),
             b'l' => self.lent = usize::from(number(0)),
             b'k' => self.kept = (self.fields.clone(), self.journal.clone()),
             b'a' => (self.fields, self.journal) = self.kept.clone(),

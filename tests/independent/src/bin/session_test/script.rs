@@ -89,6 +89,11 @@ impl Script {
         self.edited("", &format!("m {p} {a} {o}"));
     }
 
+    /// Tries a move with each byte of the standing moves changed in turn, to two others.
+    fn swept(&mut self, [p, a, o]: Move) {
+        writeln!(self.0, "keep\njournal 1 {p} {a} {o}\njournal 255 {p} {a} {o}\nagain").unwrap();
+    }
+
     /// Sets all fields that differ from the all-zero record's, which a refused start gives.
     pub fn load(&mut self, record: &Record) {
         self.start(Config::new(0, 0, 0, 0));
@@ -557,6 +562,7 @@ fn random_sessions(s: &mut Script) {
             }
         }
         s.all(&["front", "hash"]);
+        s.swept([1, LOCK, 1]);
     }
 }
 
@@ -585,6 +591,7 @@ fn longest(s: &mut Script) {
     s.say("# 16 with 3,999 moves");
     s.all(&["back", "keep"]);
     edited_places(s, &worked, &[0, 1, 1_333, 3_000, 3_997, 3_998, 3_999]);
+    s.swept(worked.moves[3_999]);
     s.make(worked.moves[3_999]);
     other_end(s, &worked);
     full(s);
