@@ -15,6 +15,7 @@ use borrow.Author.Tests.{eq-eqb}
 use Rattle.session.specs.declared.Tested.{Tested}
 use Rattle.session.specs.Contract.{config-of, standing, test-refusal, tested}
 use Rattle.session.proofs.Reached.{moved-reached}
+use Rattle.session.proofs.Testing.{tested-number}
 use Rattle.session.proofs.Holding.{test-agrees}
 use Rattle.step.specs.declared.Moved.{Moved}
 use Rattle.step.specs.model.Moves.{moved-of}
@@ -116,8 +117,7 @@ chart-made count c right (a ∷ ms) done ok all =
 
 module _ (r : Session) (j : List ℕ) (x : Tested) (e : x ≡ tested r j) where
   number : x .refusal ≡ test-refusal r j
-  unfolding tested
-  number = ap (λ (t : Tested). t .refusal) e
+  number = tested-number r j x e
 
   pub chart-refused : (x .refusal ≡ 0 → ⊥) → decimal (x .refusal) ++ line-feed ≡ chart-text r j
   unfolding chart-text

@@ -6,7 +6,7 @@ use mathlib.Core.List.{List, [], _∷_}
 use mathlib.Core.Path.{_≡_, refl, sym, ap}
 use native.Mathlib.Omega.{arith}
 use lib.Dec.{eqb}
-use lib.ListN.{length}
+use lib.ListN.{length, replicate}
 use Rattle.state.specs.declared.Session.{Session}
 use Rattle.state.specs.Association.{session-record}
 use Rattle.reference.specs.Refusal.{refuse}
@@ -15,7 +15,7 @@ use Rattle.reference.specs.State.{State, processor-at}
 use Rattle.reference.specs.Start.{start}
 use Rattle.reference.specs.Step.{Move, move-of, next}
 use Rattle.reference.specs.Cause.{cause, accepted}
-use Rattle.reference.specs.Session.{move, turn, other, Call, all-but-last}
+use Rattle.reference.specs.Session.{Request, move, turn, other, Call, all-but-last}
 use Rattle.session.specs.Contract.{shown, config-of, answered, or-later, lent-refusal, standing, matches, written-at}
 use Rattle.turns.specs.Contract.{turn-made}
 use Rattle.claim.specs.Implementation.{Outcome, Implementation, outcome, calls}
@@ -41,6 +41,13 @@ go = move-of 1 0 0
 abbrev locked : Session
 locked = after-start one (lock-move ∷ [])
 
+-- what lets a call pass there with a journal of no moves leaves no session
+unsound : (impl : Implementation) (q : Request) → impl .call locked long q .refusal ≡ 0 → ¬ (Sound impl)
+unfolding computing
+unsound impl q passed s =
+    let n : false ≡ true = s locked long q passed .legal-before in
+    true≢false (sym n)
+
 -- ---- A move believes the journal.
 
 move-untested : Implementation
@@ -54,9 +61,7 @@ move-untested-breaks-3 d =
 
 move-untested-unsound : ¬ (Sound move-untested)
 unfolding move-untested made-unless computing
-move-untested-unsound d =
-    let n : false ≡ true = d locked long (move go) refl .legal-before in
-    true≢false (sym n)
+move-untested-unsound = unsound move-untested (move go) refl
 
 -- ---- A turn believes the journal.
 
@@ -65,7 +70,7 @@ turn-untested = with-turn (λ r j x p. testing true (scripts-refusal r x) r j (t
 
 -- a script without calls; the turn elsewhere than at App is a go
 abbrev empty : List ℕ
-empty = 0 ∷ 0 ∷ 0 ∷ 0 ∷ 0 ∷ 0 ∷ 0 ∷ 0 ∷ 0 ∷ 0 ∷ 0 ∷ 0 ∷ 0 ∷ []
+empty = replicate 13 0
 
 turn-untested-breaks-3 : ¬ (Demand3 turn-untested)
 unfolding turn-untested made-unless computing
@@ -75,9 +80,7 @@ turn-untested-breaks-3 d =
 
 turn-untested-unsound : ¬ (Sound turn-untested)
 unfolding turn-untested made-unless computing
-turn-untested-unsound d =
-    let n : false ≡ true = d locked long (turn empty 1) refl .legal-before in
-    true≢false (sym n)
+turn-untested-unsound = unsound turn-untested (turn empty 1) refl
 
 -- ---- The journal's moves have to be accepted, as many as stand, and what they give is not compared with the record.
 
@@ -115,9 +118,7 @@ last-unreplayed-breaks-3 d =
 
 last-unreplayed-unsound : ¬ (Sound last-unreplayed)
 unfolding last-unreplayed made-unless computing
-last-unreplayed-unsound d =
-    let n : false ≡ true = d locked long (move go) refl .legal-before in
-    true≢false (sym n)
+last-unreplayed-unsound = unsound last-unreplayed (move go) refl
 
 -- ---- An accepted move leaves the start's record: record and journal agree, and the moves are lost.
 
@@ -127,6 +128,12 @@ forgets-moves =
     (λ r j a.
     let o : Outcome = calls r j (move a) in
     outcome (answered (o .refusal) (session-record (start (config-of r)) (r .initial)) r) j [])
+
+forgets-moves-breaks-3 : ¬ (Demand3 forgets-moves)
+unfolding forgets-moves computing
+forgets-moves-breaks-3 d =
+    let n : _≡_ {A = ℕ} 0 1 = ap (λ (r : Session). r .state .applied) (d .sessions alone long refl (locks ∷ []) (tt, tt) .state) in
+    omega arith
 
 forgets-moves-unsound : ¬ (Sound forgets-moves)
 unfolding forgets-moves computing

@@ -3,18 +3,19 @@
 use Prim.Native.Nat.{ℕ, zero, suc}
 use mathlib.Core.Bool.{Bool, true, not}
 use mathlib.Core.List.{List}
-use mathlib.Core.Path.{_≡_, refl, sym, _∙_}
+use mathlib.Core.Path.{_≡_, refl, sym, ap, _∙_}
 use native.Mathlib.Omega.{arith}
 use lib.ListN.{length, replicate}
+use Rattle.session.specs.declared.Tested.{Tested}
 use Rattle.state.specs.declared.Session.{Session}
 use Rattle.state.specs.Association.{decode}
 use Rattle.reference.specs.Refusal.{refuse}
-use Rattle.reference.specs.Lists.{if-zero}
+use Rattle.reference.specs.Lists.{if-zero, tabulate}
 use Rattle.reference.specs.Start.{start}
 use Rattle.reference.specs.Cause.{accepted}
 use Rattle.reference.specs.Session.{replays}
 use Rattle.reference.proofs.Tests.{both-left}
-use Rattle.session.specs.Contract.{config-of, lent-refusal, standing, matches, test-refusal, tested}
+use Rattle.session.specs.Contract.{config-of, lent-refusal, standing, matches, test-refusal, progress-in, tested}
 use Rattle.session.specs.model.Replay.{counted-in}
 use Rattle.state.proofs.Branch.{if-some}
 use Rattle.session.proofs.Answers.{or-first, lent-passed, test-passed}
@@ -36,6 +37,15 @@ module _ (r : Session) (j : List ℕ) where
       (refuse (not b) 16 0 ≡ test-refusal r j) × (after ≡ counts calls)
   unfolding test-refusal
   test-by free b e calls after are = (rw (free, ← e), are ∙ rw free)
+
+  -- what is answered: the number, and each thread's calls where there is none
+  pub tested-number : (t : Tested) → t ≡ tested r j → t .refusal ≡ test-refusal r j
+  unfolding tested
+  tested-number t e = ap (λ (x : Tested). x .refusal) e
+
+  pub tested-calls : test-refusal r j ≡ 0 → tested r j .calls ≡ tabulate (progress-in r j) 0 33
+  unfolding tested
+  tested-calls free = rw free
 
   -- with each thread's calls: refused, none
   pub tested-refused : (n : ℕ) → n ≡ test-refusal r j → (n ≡ 0 → ⊥) → record { refusal = n; calls = replicate 33 0 } ≡ tested r j

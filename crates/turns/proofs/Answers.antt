@@ -15,7 +15,6 @@ use Rattle.state.specs.declared.Session.{Session}
 use Rattle.state.specs.Record.{zero-session, processor-of, Sized}
 use Rattle.step.specs.model.Moves.{moved-of}
 use Rattle.session.specs.declared.Answer.{Answer}
-use Rattle.session.specs.declared.Tested.{Tested}
 use Rattle.reference.specs.Refusal.{refuse}
 use Rattle.reference.specs.Lists.{choose, tabulate}
 use Rattle.reference.specs.Start.{Config, config-cause}
@@ -26,6 +25,7 @@ use Rattle.session.specs.Contract.{shown, config-of, started, or-later, lent-re
 use Rattle.session.specs.model.Replay.{stored}
 use Rattle.session.proofs.Answers.{or-passed, or-first, lent-passed, test-passed, made-answer, made-journal}
 use Rattle.session.proofs.Undone.{state-right}
+use Rattle.session.proofs.Testing.{tested-calls}
 use Rattle.turns.specs.Contract.{scripted, turn-made, turn-refusal, turned, turn-journal, class-refusal, classed, class-journal, answers-after, pictures-after}
 use Rattle.turns.specs.declared.made.Made.{Made}
 use Rattle.turns.specs.model.Turn.{turn-of, made-by, turn-result, Given}
@@ -57,15 +57,6 @@ module _ (c : Config) (x : List ℕ) (a : Answer) (e : a ≡ started c) where
   start-unscripted z ok = rw (sym number ∙ z, ok)
 
 -- ---- turn
-
--- the number that the journal's test gives, and the calls that it counts
-pub tested-number : (r : Session) (j : List ℕ) (t : Tested) → t ≡ tested r j → t .refusal ≡ test-refusal r j
-unfolding tested
-tested-number r j t e = ap (λ (t : Tested). t .refusal) e
-
-pub tested-calls : (r : Session) (j : List ℕ) → test-refusal r j ≡ 0 → tested r j .calls ≡ tabulate (progress-in r j) 0 33
-unfolding tested
-tested-calls r j free = rw free
 
 module _ (r : Session) (j x : List ℕ) (p : ℕ) where
   -- a refused turn: the number, the record handed in, and the journal as it was

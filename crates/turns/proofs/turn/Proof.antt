@@ -4,7 +4,8 @@ use mathlib.Core.Path.{sym, ap, _∙_}
 use borrow.Author.Needs.{needs}
 use Rattle.state.proofs.Sized.{session-sized}
 use Rattle.session.specs.declared.Tested.{Tested}
-use Rattle.turns.proofs.Answers.{tested-number, turn-untested, turn-unscripted, turn-answer, turn-journaled}
+use Rattle.session.proofs.Testing.{tested-number}
+use Rattle.turns.proofs.Answers.{turn-untested, turn-unscripted, turn-answer, turn-journaled}
 use Rattle.turns.proofs.turn.Statement.{statement}
 use Rattle.turns.proofs.turn.Tie as tie
 
