@@ -10,20 +10,22 @@ use lib.Dec.{eqb, leb, ltb}
 use borrow.Author.Tests.{leb-true, not-false}
 use Rattle.state.specs.declared.Thread.{Thread}
 use Rattle.state.specs.declared.Processor as declared
+use Rattle.state.specs.declared.Mutex as declared-mutex
 use Rattle.state.specs.Record.{thread-of, processor-of}
 use Rattle.state.specs.Association.{encode}
 use Rattle.step.specs.declared.View as code
-use Rattle.step.specs.model.Moves.{index-of, sizes-of, facts-of, move-view, cause-seen, cause-of, nothing-there, breaks-at, step-breaks-of, view-of}
+use Rattle.step.specs.model.Moves.{index-of, sizes-of, owns-none as code-owns-none, facts-of, owning-of, move-view, cause-seen, cause-of, nothing-there, breaks-at, step-breaks-of, view-of}
 use Rattle.reference.specs.Refusal.{refuse}
 use Rattle.reference.specs.Lists.{choose, in-range}
 use Rattle.reference.specs.State as reference
 use Rattle.reference.specs.State.{State, Processor, Line, L1, L9, TL3, U1, H5, Life, new, live, terminated, same-line, same-life, processor-at, mutex-at, life-at}
 use Rattle.reference.specs.Step.{Move, Action, action-of, view, works-on}
-use Rattle.reference.specs.Cause.{operand-fits, is-go, is-unlock, is-create, at-app, first-cause, cause}
+use Rattle.reference.specs.Cause.{operand-fits, is-go, is-unlock, is-exit, is-create, at-app, owns-none, first-cause, cause}
 use Rattle.reference.specs.Break.{is-empty, line-breaks, step-breaks}
 use Rattle.reference.specs.Picture.{Entry, thread-entry}
 use Rattle.reference.specs.Safe.{In}
 use Rattle.reference.proofs.Tests.{range-true}
+use Rattle.reference.proofs.Each.{each-agree}
 use Rattle.reference.proofs.Same.{same-line-exact}
 use Rattle.reference.proofs.Legal.{legal}
 use Rattle.association.proofs.Spots.{Spot, AtSpot, entry-for, spot-entry, spot-of}
@@ -73,7 +75,7 @@ module _ (s : State) (h : Fits s) where
   -- the causes by the action's number: on the record, and in the state
   abbrev Same : ℕ → ℕ → ℕ → Action → Type 0
   Same p o n a =
-      first-cause (facts-of (in-range 1 (s .P) p) (eqb n 0) (sizes-of (encode s)) (move-view (encode s) p n o) (thread-of (encode s) o .status) n o) ≡
+      first-cause (facts-of (in-range 1 (s .P) p) (eqb n 0) (sizes-of (encode s)) (move-view (encode s) p n o) (owning-of (encode s) p n) (thread-of (encode s) o .status) n o) ≡
       first-cause (record {
         there = in-range 1 (s .P) p;
         fits = leb n 6 && operand-fits s a o;
@@ -82,16 +84,22 @@ module _ (s : State) (h : Fits s) where
         at-app = at-app s p;
         unlocks = is-unlock a;
         owner = eqb (mutex-at s o .owner) (processor-at s p .current);
+        exits = is-exit a;
+        owning = not (owns-none s (processor-at s p .current));
         creates = is-create a;
         is-new = same-life (life-at s o) new;
       })
+
+  -- a thread owns no mutex of the record where it owns none of the state
+  owns-shows : (k : ℕ) → code-owns-none (encode s .mutexes) (s .M) k ≡ owns-none s k
+  owns-shows k = each-agree _ _ 1 (s .M) (λ m l. ap (λ (x : declared-mutex.Mutex). not (eqb (x .owner) k)) (read-mutex s h m))
 
   same : (p o n : ℕ) → n ≤ 6 → Same p o n (action-of n)
   unfolding encode
   same p o =
       by-action (Same p o)
       (rw (read-processor s h p)) (rw (read-processor s h p)) (rw (read-processor s h p)) (rw (read-processor s h p, read-mutex s h o))
-      (rw (read-processor s h p)) (rw (read-processor s h p))
+      (rw (read-processor s h p)) (rw (read-processor s h p, owns-shows (processor-at s p .current)))
       (rw (read-processor s h p)
       (later (not (in-range 1 (s .P) p)) 2 (λ e. later (not (in-range 1 (s .T) o)) 3 (λ f. rw (new-status o (range-true 1 (s .T) o (not-false _ f)))))))
 

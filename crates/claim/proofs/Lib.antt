@@ -13,4 +13,5 @@ pub mod Wrong
 pub mod WrongTurns
 pub mod WrongQueues
 pub mod WrongJournals
+pub mod WrongExits
 pub mod Worked

@@ -1,19 +1,23 @@
--- The worked class and the two journals, computed.
+-- The worked classes and the two journals, computed.
 -- Assumes nothing.
 use Prim.Native.Nat.{ℕ}
 use mathlib.Core.Path.{_≡_, refl, ap}
 use native.Mathlib.Omega.{arith}
-use Rattle.reference.specs.Lists.{tabulate, those, find, sum, is}
+use Rattle.reference.specs.Lists.{tabulate, those, find, sum, is, each}
 use Rattle.reference.specs.Start.{start}
 use Rattle.reference.specs.Step.{Move, next, run, act, action-of, line}
 use Rattle.reference.specs.Cause.{cause, accepted}
 use Rattle.reference.specs.Picture.{behind, thread-entry, concat, picture}
 use Rattle.reference.specs.Script.{progress, turn-move, class-moves, class-answers}
-use Rattle.claim.specs.Worked.{HandOff, SameRecord}
+use Rattle.claim.specs.Worked.{HandOff, SpentScript, SameRecord}
 
 pub hand-off : HandOff
-unfolding start tabulate those run next act line cause action-of progress turn-move class-moves class-answers find sum is behind thread-entry concat picture
+unfolding start tabulate those run next act line cause action-of progress turn-move class-moves class-answers find sum is each behind thread-entry concat picture
 hand-off = record { answers = refl; moves = refl; waiting = refl; handed = (refl, refl); shown = refl }
+
+pub spent-script : SpentScript
+unfolding start tabulate those run next act line cause action-of progress turn-move class-moves class-answers each
+spent-script = record { answers = refl; waits = refl }
 
 pub same-record : SameRecord
 unfolding start tabulate those run next act line cause action-of accepted progress turn-move

@@ -1,5 +1,5 @@
--- Document 02, No. 7, worked on two processors with a thread each and one mutex: a class that goes through a hand-off, and two journals with the same record
--- that call for different moves. Actions: 0 go, 1 lock, 3 unlock, 4 yield, 5 exit.
+-- Document 02, No. 7, worked on two processors with a thread each and one mutex: a class that goes through a hand-off, one in which a script leaves its thread an
+-- owner, and two journals with the same record that call for different moves. Actions: 0 go, 1 lock, 3 unlock, 4 yield, 5 exit.
 -- Assumes nothing.
 use Prim.Native.Nat.{ℕ}
 use mathlib.Core.Bool.{true}
@@ -64,6 +64,22 @@ pub record HandOff : Type 0 where
       0 ∷ 0 ∷ 0 ∷ 0 ∷ 0 ∷ 0 ∷ 0 ∷ 0 ∷
       5 ∷ 0 ∷ 0 ∷ 0 ∷
       5 ∷ 0 ∷ 0 ∷ 0 ∷ []
+
+-- ---- an owner whose script is spent (No. 9)
+
+-- the scripts of both threads: lock 1
+abbrev pub lock-only : List ℕ
+lock-only = 1 ∷ 1 ∷ 1 ∷ replicate 10 0 ++ 1 ∷ 1 ∷ 1 ∷ replicate 10 0
+
+-- 1 locks and owns; it has no call left; 2 locks and goes to its queue; 1 has a turn again
+abbrev pub left-owning : List ℕ
+left-owning = 1 ∷ 1 ∷ 1 ∷ 2 ∷ 2 ∷ 2 ∷ 2 ∷ 2 ∷ 1 ∷ []
+
+pub record SpentScript : Type 0 where
+  -- 21 at both turns
+  pub answers : class-answers two lock-only [] left-owning ≡ 0 ∷ 0 ∷ 21 ∷ replicate 5 0 ++ 21 ∷ []
+  -- thread 1 owns the mutex, and thread 2 waits
+  pub waits : mutex-at (run (start two) (class-moves two lock-only [] left-owning)) 1 ≡ mutex 2 (2 ∷ []) 1
 
 -- ---- two journals
 

@@ -1,9 +1,10 @@
 -- Whatever lines the program `course` reads, the session that it holds is one of demand 3 (Demand3 of claim/specs), so that its laws hold and its answers are
 -- the reference session's. `Sessions` is the statement; proofs/Sessions.antt proves it.
 -- Assumes nothing.
-use Prim.Native.Nat.{ℕ, _*_, _≤_, _<_}
+use Prim.Native.Nat.{ℕ, _*_, _≤_}
 use mathlib.Core.Bool.{true}
 use mathlib.Core.List.{List, [], _∷_, _++_}
+use mathlib.Core.Logic.{_⊎_}
 use mathlib.Core.Path.{_≡_}
 use lib.Dec.{eqb}
 use lib.ListN.{length, take}
@@ -13,7 +14,7 @@ use Rattle.command.specs.Request.{plain, turn, turns, mark-own}
 use Rattle.command.specs.model.Request.{ask-of}
 use Rattle.command.specs.declared.Command.the-variants.{Move, Back, Show}
 use Rattle.state.specs.Association.{session-record}
-use Rattle.reference.specs.Refusal.{nothing-applied, bad-length, refuse}
+use Rattle.reference.specs.Refusal.{nothing-applied, bad-length, still-owner, refuse}
 use Rattle.reference.specs.Lists.{choose}
 use Rattle.reference.specs.State.{State}
 use Rattle.reference.specs.Start.{Config, config-cause, start}
@@ -83,5 +84,5 @@ pub record Sessions : Type 0 where
   pub lawful : (j x : List ℕ) (ls : List (List ℕ)) → after-lines (started-with j x) ls .base .begun ≡ true → Lawful (length j) (length x) (after-lines (started-with j x) ls)
   -- so it is after any run
   pub runs : (j x : List ℕ) (u : Run course (started-with j x)) → u .context .base .begun ≡ true → InSession (held-by (u .context)) × Lawful (length j) (length x) (u .context)
-  -- no cause is above 9, so that none of the numbers in `Answers` is 10, 15, 16 or 19
-  pub small : (s : State) (a : step.Move) → cause s a < 10
+  -- a cause is at most 8 or it is 21, so that none of the numbers in `Answers` is 10, 15, 16 or 19
+  pub causes : (s : State) (a : step.Move) → (cause s a ≤ 8) ⊎ (cause s a ≡ still-owner)

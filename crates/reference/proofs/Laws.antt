@@ -1,7 +1,7 @@
 -- The laws of safety, and what else is known of a state that has the invariant or is reached.
 -- Assumes nothing.
 use Prim.Native.Nat.{ℕ, zero, suc, _+_, _≤_}
-use mathlib.Core.Bool.{true, false}
+use mathlib.Core.Bool.{Bool, true, false}
 use mathlib.Core.List.{List, [], _∷_}
 use mathlib.Core.Path.{_≡_, refl, ap, sym, _∙_}
 use native.Mathlib.Decide.{ℕ-discrete}
@@ -9,7 +9,7 @@ use native.Mathlib.Omega.{arith}
 use lib.Dec.{eqb, ltb, leb}
 use lib.ListN.{length}
 use borrow.Author.Tests.{leb-true, leb-false, le-ltb, lt-ltb, eqb-true, eq-eqb, ne-eqb}
-use Rattle.reference.specs.State.{Processor, Life, State, L9, U1, nobody, processor-at, mutex-at, life-at}
+use Rattle.reference.specs.State.{Processor, Mutex, Life, live, State, L9, U1, nobody, processor-at, mutex-at, life-at}
 use Rattle.reference.specs.Start.{Config, config-cause, first-life, start}
 use Rattle.reference.specs.Step.{Move, next, run}
 use Rattle.reference.specs.Cause.{accepted}
@@ -21,6 +21,7 @@ use Rattle.reference.proofs.Invariant.{Good, reached, weighs, on, times
 use Rattle.reference.proofs.Owners.{owner-history}
 use Rattle.reference.proofs.Start.{ranges, start-good, mutex-start, life-start}
 use Rattle.reference.proofs.Lives.{life-history, is-new, is-over}
+use Rattle.reference.proofs.Living.{Living, living}
 
 -- ---- of a run
 
@@ -104,6 +105,10 @@ first-lives b k =
     choose-by (λ (l : Life). (is-new l ≡ ltb b k) × (is-over l ≡ false)) (leb k b)
     (λ e. (sym (le-ltb b k (leb-true k b e)), refl)) (λ e. (sym (lt-ltb b k (leb-false k b e)), refl))
 
+-- at start no mutex has an owner
+start-living : (c : Config) → Living (start c)
+start-living c m rm = ap (λ (x : Mutex). life-at (start c) (x .owner)) (mutex-start c m)
+
 module _ (c : Config) (e : config-cause c ≡ 0) (ms : List Move) (ok : accepted (start c) ms ≡ true) where
   -- the owner by history is the owner field
   pub owner-is : (m k : ℕ) → In (c .M) m → 1 ≤ k → owns (start c) ms m k false ≡ eqb (mutex-at (run (start c) ms) m .owner) k
@@ -119,10 +124,17 @@ module _ (c : Config) (e : config-cause c ≡ 0) (ms : List Move) (ok : accepted
       let z = first-lives (c .B) k in
       rw (life-start c k r, z .0, z .1) at (life-history ms (start c) k (start-good c (ranges c e)) ok r)
 
+-- one of two tests counts where it holds
+none-counted : (a b : Bool) → one-if a + one-if b ≡ 0 → (a ≡ false) × (b ≡ false)
+none-counted true b h = absurd (omega arith)
+none-counted false true h = absurd (omega arith)
+none-counted false false h = (refl, refl)
+
 pub safe : Always Safe
 safe c ms e ok =
     record {
       one-owner = λ m k j rm rk rj h i. owned m k rm rk h ∙ sym (owned m j rm rj i);
+      owner-lives = λ m k rm rk h. none-counted (unborn c ms k) (ended c ms k) (sym (gone-is c e ms ok k rk) ∙ ap gone (lives m k rm (owned m k rm rk h)));
       one-place = λ k r. omega (arith, g .census k (omega (arith, sized c ms)), gone-is c e ms ok k r);
       none-left = λ m rm nobody-owns nobody-calls. empty (mutex-at (end c ms) m .queue) (λ q. nobody-calls (calls m rm q (no-owner m rm nobody-owns)));
     }
@@ -132,6 +144,9 @@ safe c ms e ok =
 
     owned : (m k : ℕ) → In (c .M) m → In (c .T) k → Owns c ms m k → k ≡ mutex-at (end c ms) m .owner
     owned m k rm rk h = sym (eqb-true (mutex-at (end c ms) m .owner) k (sym (owner-is c e ms ok m k rm (rk .0)) ∙ h))
+
+    lives : (m k : ℕ) → In (c .M) m → k ≡ mutex-at (end c ms) m .owner → life-at (end c ms) k ≡ live
+    lives m k rm h = ap (life-at (end c ms)) h ∙ living ms (start c) (start-good c (ranges c e)) (start-living c) ok m (omega (arith, sized c ms))
 
     no-owner : (m : ℕ) → In (c .M) m → ((k : ℕ) → In (c .T) k → ¬ (Owns c ms m k)) → mutex-at (end c ms) m .owner ≡ 0
     no-owner m rm h = by (mutex-at (end c ms) m .owner) refl

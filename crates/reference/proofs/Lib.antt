@@ -12,6 +12,8 @@ pub mod Owners
 pub mod Start
 pub mod Dealt
 pub mod Lives
+pub mod Living
+pub mod Current
 pub mod Bound
 pub mod Laws
 pub mod Break
@@ -19,5 +21,6 @@ pub mod Bounds
 pub mod Slips
 pub mod Moves
 pub mod Script
+pub mod Spent
 pub mod Queues
 pub mod OneProcessor

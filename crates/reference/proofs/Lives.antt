@@ -1,20 +1,19 @@
 -- A thread is new or terminated by history exactly if its life says so.
 -- Assumes nothing.
-use Prim.Native.Nat.{ℕ, _+_}
+use Prim.Native.Nat.{ℕ, zero, suc, _+_, _≤_}
 use mathlib.Core.Bool.{Bool, true, false, _&&_, _||_, not, and-true, or-false, or-true}
 use mathlib.Core.List.{List, [], _∷_}
 use mathlib.Core.Logic.{_≢_}
 use mathlib.Core.Path.{_≡_, refl, ap, ap₂, sym, _∙_}
 use native.Mathlib.Omega.{arith}
 use lib.Dec.{eqb}
-use lib.ListN.{length}
 use borrow.Author.Tests.{eq-eqb, ne-eqb}
 use Rattle.reference.specs.Lists.{at, put}
 use Rattle.reference.specs.State.{Life, new, live, terminated, State, nobody, processor-at, life-at, same-life}
 use Rattle.reference.specs.Step.{Move, Action, go, lock, trylock, unlock, yield, exit, create, created-by, ended-by, action-of, next, run}
 use Rattle.reference.specs.Cause.{accepted}
 use Rattle.reference.specs.History.{created, exited}
-use Rattle.reference.specs.Safe.{In, one-if}
+use Rattle.reference.specs.Safe.{In, one-if, held}
 use Rattle.reference.proofs.Sums.{is-same, sum-at, at-put}
 use Rattle.reference.proofs.Legal.{Here, legal, accepted-cons}
 use Rattle.reference.proofs.Invariant.{Good, next-good, gone, in-registers}
@@ -34,6 +33,25 @@ is-live : (l : Life) → gone l ≡ 0 → l ≡ live
 is-live new h = absurd (omega arith)
 is-live live h = refl
 is-live terminated h = absurd (omega arith)
+
+module _ (s : State) (g : Good s) where
+  -- a thread that is held is live
+  pub held-lives : (k : ℕ) → In (s .T) k → 1 ≤ held s k → life-at s k ≡ live
+  held-lives k r h = is-live (life-at s k) (omega (arith, g .census k r))
+
+  -- and so is a processor's current thread
+  pub current-lives : (p : ℕ) → In (s .P) p → life-at s (processor-at s p .current) ≡ live
+  current-lives p r = by (processor-at s p .current) refl
+    where
+      by : (k : ℕ) → processor-at s p .current ≡ k → life-at s (processor-at s p .current) ≡ live
+      by zero e = ap (life-at s) e
+      by (suc k) e =
+          held-lives (processor-at s p .current) (omega (arith, g .table p r .registers .current-most))
+          (omega (
+            arith,
+            is-same (processor-at s p .current),
+            sum-at (in-registers (processor-at s p .current)) (s .processors) p nobody (omega (arith, g .processors)),
+          ))
 
 later-new : (u x y : Bool) → (u && not x) && not y ≡ u && not (x || y)
 later-new true true y = refl
@@ -61,18 +79,8 @@ module _ (s : State) (g : Good s) (p : ℕ) (rp : In (s .P) p) (k : ℕ) (rk : I
   turned-ended : Turned 0 (processor-at s p .current) k (life-at s k) (at (put (s .lives) (processor-at s p .current) terminated) k live)
   turned-ended =
       at-put (λ (k : ℕ) (x : Life). Turned 0 (processor-at s p .current) k (life-at s k) x) (s .lives) (processor-at s p .current) k terminated live (omega (arith, g .lives))
-      (λ i. (rw (lives i), rw (eq-eqb (processor-at s p .current) (processor-at s p .current) refl) (sym (or-true (is-over (life-at s (processor-at s p .current)))))))
+      (λ i. (rw (current-lives s g p rp), rw (eq-eqb (processor-at s p .current) (processor-at s p .current) refl) (sym (or-true (is-over (life-at s (processor-at s p .current)))))))
       (λ n. turned-none 0 (processor-at s p .current) k (life-at s k) (omega arith) (λ z. n (sym z)))
-    where
-      lives : In (length (s .lives)) (processor-at s p .current) → life-at s (processor-at s p .current) ≡ live
-      lives i =
-          is-live (life-at s (processor-at s p .current))
-          (omega (
-            arith,
-            is-same (processor-at s p .current),
-            g .census (processor-at s p .current) (omega (arith, g .lives)),
-            sum-at (in-registers (processor-at s p .current)) (s .processors) p nobody (omega (arith, g .processors)),
-          ))
 
   turned : (a : Action) (o : ℕ) → Here s p a o →
       Turned (created-by a o) (ended-by a (processor-at s p .current)) k (life-at s k)

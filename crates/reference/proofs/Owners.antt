@@ -30,7 +30,7 @@ pub record Event (l : Line) (v v′ : View) : Type 0 where
   pub kept : gains l v ≡ 0 → drops l v ≡ 0 → v′ .mutex .owner ≡ v .mutex .owner
 
 module _ (P T M N : ℕ) (f : ℕ → ℕ) where
-  event : (l : Line) (v : View) → Fit P T M N f l v → Event l v (line l v)
+  pub event : (l : Line) (v : View) → Fit P T M N f l v → Event l v (line l v)
   unfolding line gains drops
   event App v h = omega arith
   event CI2 v h = if-empty-by (Event CI2 v) (v .ready) (λ e. omega arith) (λ x xs e. omega arith)

@@ -5,7 +5,7 @@ use mathlib.Core.Bool.{Bool, _&&_}
 use mathlib.Core.List.{List, [], _∷_}
 use mathlib.Core.Path.{_≡_, refl, ap, _∙_}
 use lib.Dec.{eqb}
-use Rattle.reference.specs.Lists.{tabulate, those, sum, is}
+use Rattle.reference.specs.Lists.{tabulate, those, sum, is, each}
 use Rattle.reference.specs.State.{State}
 use Rattle.reference.specs.Start.{start, config-cause}
 use Rattle.reference.specs.Step.{Action, go, lock, trylock, unlock, yield, exit, create, Move, action-of, act, line, does, next, run}
@@ -59,7 +59,7 @@ owns-proper s (a ∷ rest) m k b =
 -- ---- the sessions
 
 pub slips : Slips
-unfolding config-cause start tabulate those run next act action-of line cause accepted step-breaks gains drops sum is next-by run-by accepted-by owns-by
+unfolding config-cause start tabulate those each run next act action-of line cause accepted step-breaks gains drops sum is next-by run-by accepted-by owns-by
 slips =
     record {
       run-proper = run-proper;

@@ -1,11 +1,11 @@
--- Why a move is refused: the first of 2, 3, 8, 4 or 5, 6, 7 that is there, else 0. Code and specs take the order from here (`first-cause`).
+-- Why a move is refused: the first of 2, 3, 8, 4 or 5, 6 or 21 or 7 that is there, else 0. Code and specs take the order from here (`first-cause`).
 -- Assumes nothing.
 use Prim.Native.Nat.{ℕ}
 use mathlib.Core.Bool.{Bool, true, false, _&&_, not}
 use mathlib.Core.List.{List, [], _∷_}
 use lib.Dec.{eqb, leb}
-use Rattle.reference.specs.Refusal.{no-processor, bad-operand, full, call-away, go-at-app, not-owner, not-new, refuse}
-use Rattle.reference.specs.Lists.{in-range}
+use Rattle.reference.specs.Refusal.{no-processor, bad-operand, full, call-away, go-at-app, not-owner, not-new, still-owner, refuse}
+use Rattle.reference.specs.Lists.{in-range, each}
 use Rattle.reference.specs.State.{State, App, new, same-line, same-life, processor-at, mutex-at, life-at}
 use Rattle.reference.specs.Step.{Action, go, lock, trylock, unlock, yield, exit, create, Move, action-of, next}
 
@@ -37,6 +37,15 @@ is-unlock yield = false
 is-unlock exit = false
 is-unlock create = false
 
+abbrev pub is-exit : Action → Bool
+is-exit go = false
+is-exit lock = false
+is-exit trylock = false
+is-exit unlock = false
+is-exit yield = false
+is-exit exit = true
+is-exit create = false
+
 abbrev pub is-create : Action → Bool
 is-create go = false
 is-create lock = false
@@ -48,6 +57,10 @@ is-create create = true
 
 abbrev pub at-app : State → ℕ → Bool
 at-app s p = same-line (processor-at s p .position) App
+
+-- thread k owns no mutex
+abbrev pub owns-none : State → ℕ → Bool
+owns-none s k = each (λ m. not (eqb (mutex-at s m .owner) k)) 1 (s .M)
 
 -- what decides a move's cause
 pub record Facts : Type 0 where
@@ -61,6 +74,9 @@ pub record Facts : Type 0 where
   -- it is an unlock, and the current thread is the owner of the mutex that the operand names
   pub unlocks : Bool
   pub owner : Bool
+  -- it is an exit, and the current thread owns some mutex
+  pub exits : Bool
+  pub owning : Bool
   -- it is a create, and the thread that the operand names is new
   pub creates : Bool
   pub is-new : Bool
@@ -74,7 +90,8 @@ first-cause f =
     (refuse (not (f .goes) && not (f .at-app)) call-away
     (refuse (f .goes && f .at-app) go-at-app
     (refuse (f .unlocks && not (f .owner)) not-owner
-    (refuse (f .creates && not (f .is-new)) not-new 0))))))
+    (refuse (f .exits && f .owning) still-owner
+    (refuse (f .creates && not (f .is-new)) not-new 0)))))))
 
 abbrev pub facts : State → Move → Facts
 facts s a =
@@ -86,6 +103,8 @@ facts s a =
       at-app = at-app s (a .processor);
       unlocks = is-unlock (action-of (a .action));
       owner = eqb (mutex-at s (a .operand) .owner) (processor-at s (a .processor) .current);
+      exits = is-exit (action-of (a .action));
+      owning = not (owns-none s (processor-at s (a .processor) .current));
       creates = is-create (action-of (a .action));
       is-new = same-life (life-at s (a .operand)) new;
     }

@@ -12,6 +12,7 @@ pub mod Bounds
 pub mod Slips
 pub mod Picture
 pub mod Script
+pub mod Spent
 pub mod Session
 pub mod Queues
 pub mod OneProcessor

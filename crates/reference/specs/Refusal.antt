@@ -71,6 +71,10 @@ bad-journal = 16
 abbrev pub bad-script : ℕ
 bad-script = 19
 
+-- an exit by the owner of a mutex
+abbrev pub still-owner : ℕ
+still-owner = 21
+
 -- `n` where its cause is there, else what the rest of the row says
 abbrev pub refuse : Bool → ℕ → ℕ → ℕ
 refuse true n later = n

@@ -1,4 +1,4 @@
--- The three laws of safety, of a configuration and a list of moves, by history.
+-- The four laws of safety, of a configuration and a list of moves, by history.
 -- Assumes nothing.
 use Prim.Native.Nat.{ℕ, _+_, _≤_}
 use mathlib.Core.Bool.{Bool, true, false, _&&_, not}
@@ -57,6 +57,8 @@ module _ (c : Config) (ms : List Move) where
   pub record Safe : Type 0 where
     -- two owners of one mutex are one thread,
     pub one-owner : (m k j : ℕ) → In (c .M) m → In (c .T) k → In (c .T) j → Owns m k → Owns m j → k ≡ j
+    -- which was created and has not exited,
+    pub owner-lives : (m k : ℕ) → In (c .M) m → In (c .T) k → Owns m k → (unborn k ≡ false) × (ended k ≡ false)
     -- a thread is neither lost nor in two places,
     pub one-place : (k : ℕ) → In (c .T) k → places k ≡ 1
     -- and none waits for a mutex without an owner on which no call is under way

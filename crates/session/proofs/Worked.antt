@@ -1,4 +1,4 @@
--- K1 to K10, and the sessions with a ready queue for each processor: computed on the reference machine, whose answers are the entry points' (Along).
+-- K1 to K10, the sessions with a ready queue for each processor and the exits by owners: computed on the reference machine, whose answers are the entry points' (Along).
 -- Assumes nothing.
 use Prim.Native.Nat.{ℕ, _≤_}
 use mathlib.Core.List.{List, [], _∷_, _++_}
@@ -10,16 +10,18 @@ use Rattle.state.specs.declared.Session.{Session}
 use Rattle.state.specs.Record.{chain}
 use Rattle.state.specs.Association.{encode, decode, session-record}
 use Rattle.state.specs.Rules.{session-ok, state-ok, zero-past, broken-rule, fields-ok, chains-ok, holders-ok, chain-ok, processor-ok, mutex-ok, thread-ok, every, no-twice}
-use Rattle.reference.specs.Lists.{tabulate, those, find, sum, is, each, same-list}
+use Rattle.reference.specs.Lists.{with-front, tabulate, those, find, sum, is, each, same-list}
 use Rattle.reference.specs.State.{line-of, same-state}
 use Rattle.reference.specs.Start.{Config, config-cause, start}
 use Rattle.reference.specs.Step.{Move, next, run, act, action-of, line}
 use Rattle.reference.specs.Cause.{cause, accepted}
 use Rattle.reference.specs.Break.{step-breaks}
-use Rattle.reference.specs.Picture.{thread-entry, behind}
-use Rattle.reference.specs.Session.{moves, replays}
+use Rattle.reference.specs.History.{gains, drops, owns, exited as history-exited}
+use Rattle.reference.specs.Picture.{thread-entry, behind, picture, concat}
+use Rattle.reference.specs.Session.{bytes, moves, replays}
+use Rattle.picture.specs.Picture.{read, read-refusal, fields, zero-bytes-ok}
 use Rattle.session.specs.Contract.{started, lent-refusal, matches, test-refusal, move-refusal, moved}
-use Rattle.session.specs.Worked.{config, by, owned, idles, until-l8, journal, refusals, record-after, Reaches, without-journal, Table, Stealing}
+use Rattle.session.specs.Worked.{config, by, owned, idles, until-l8, journal, refusals, record-after, Reaches, without-journal, Table, Stealing, exited, left-owner, answers, OwnerExits}
 use Rattle.session.proofs.Along.{causes, state-after, from-start}
 
 long : 12000 ≤ length journal
@@ -42,11 +44,11 @@ module _ (c : Config) (right : config-cause c ≡ 0) (ms : List Move) where
 
 -- what the rows compute with: to unfold this is to unfold all that its line names
 computing : Unit {0}
-unfolding causes state-after started config-cause start tabulate those encode decode chain next act line line-of cause action-of sum find is thread-entry behind
+unfolding causes state-after started config-cause start tabulate those encode decode chain next act line line-of cause action-of sum find is thread-entry behind each
 computing = tt
 
 testing : Unit {0}
-unfolding computing journal run accepted moves replays same-state same-list matches test-refusal moved move-refusal lent-refusal step-breaks session-ok state-ok broken-rule fields-ok processor-ok mutex-ok thread-ok chains-ok chain-ok holders-ok zero-past each every no-twice
+unfolding computing journal run accepted moves replays same-state same-list matches test-refusal moved move-refusal lent-refusal step-breaks session-ok state-ok broken-rule fields-ok processor-ok mutex-ok thread-ok chains-ok chain-ok holders-ok zero-past every no-twice
 testing = tt
 
 k8-journal : without-journal (config 3 3 1 3) until-l8 (by 2 0 0) ≡ 16
@@ -104,4 +106,32 @@ stealing =
       second-look = reaches _ refl _ _ refl refl;
       third-look = reaches _ refl _ _ refl refl;
       own = reaches _ refl _ _ refl (refl, refl);
+    }
+
+-- the answers from that start
+given : (ms : List Move) → answers ms ≡ causes (start (config 2 2 8 2)) ms
+unfolding config-cause
+given ms = numbers (config 2 2 8 2) refl ms
+
+journal-refused : (a : Move) → moved (session-record left-owner 1) (with-front journal (bytes exited)) a .refusal ≡ 16
+unfolding testing bytes
+journal-refused a = refl
+
+read-back : read (picture left-owner) ≡ record { refusal = 0; state = encode left-owner }
+unfolding testing picture concat read read-refusal fields zero-bytes-ok
+read-back = refl
+
+pub owner-exits : OwnerExits
+unfolding computing run owns history-exited gains drops picture concat
+owner-exits =
+    record {
+      first-mutex = given _ ∙ refl;
+      last-mutex = given _ ∙ refl;
+      other-mutex = given _ ∙ refl;
+      order = given _ ∙ refl;
+      unlocked = given _ ∙ refl;
+      law-broken = (refl, refl);
+      journal-refused = journal-refused;
+      pictured = refl;
+      read-back = read-back;
     }

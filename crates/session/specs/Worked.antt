@@ -1,6 +1,7 @@
--- K1 to K10 of the scope as rows of one table over what the entry points answer; and sessions with a ready queue for each processor.
+-- K1 to K10 of the scope as rows of one table over what the entry points answer; sessions with a ready queue for each processor; and exits by owners.
 -- Assumes nothing.
 use Prim.Native.Nat.{ℕ, zero, suc}
+use mathlib.Core.Bool.{true}
 use mathlib.Core.List.{List, [], _∷_, _++_}
 use mathlib.Core.Path.{_≡_}
 use lib.ListN.{replicate}
@@ -11,8 +12,15 @@ use Rattle.state.specs.declared.Mutex.{Mutex}
 use Rattle.state.specs.declared.State.{State}
 use Rattle.state.specs.declared.Session.{Session}
 use Rattle.state.specs.Record.{zero-session, processor-of, mutex-of, thread-of, first-of}
-use Rattle.reference.specs.Start.{Config}
-use Rattle.reference.specs.Step.{Move}
+use Rattle.state.specs.Association.{encode, session-record}
+use Rattle.reference.specs.Lists.{with-front}
+use Rattle.reference.specs.State as reference
+use Rattle.reference.specs.Start.{Config, start}
+use Rattle.reference.specs.Step.{Move, run}
+use Rattle.reference.specs.Safe.{Owns, ended}
+use Rattle.reference.specs.Picture.{picture}
+use Rattle.reference.specs.Session.{bytes}
+use Rattle.picture.specs.Picture.{read}
 use Rattle.session.specs.Contract.{started, moved, journal-after}
 
 abbrev pub config : ℕ → ℕ → ℕ → ℕ → Config
@@ -135,3 +143,44 @@ pub record Stealing : Type 0 where
   pub third-look : Reaches (each 2 2 1 2) (by 1 5 0 ∷ goes 1 2) (λ r. processor-of r 1 ≡ probing 0)
   -- start 2 3 1 2: processor 2's C2 appends thread 3 to its own queue; processor 1 yields, and its Y1 finds its own queue empty
   pub own : Reaches (each 2 3 1 2) (by 2 6 3 ∷ goes 2 1 ++ by 1 4 0 ∷ goes 1 1) (λ r. (first-of r 10 ≡ 3) × (processor-of r 1 ≡ processor 0 1 0 0 (token 0 0) 0))
+
+-- ---- document 02, No. 9
+
+-- processor 1 locks mutex m, and owns it
+abbrev pub locked : ℕ → List Move
+locked m = by 1 1 m ∷ goes 1 1
+
+-- it locks 2 and 1 and unlocks 1
+abbrev pub second-left : List Move
+second-left = locked 2 ++ locked 1 ++ by 1 3 1 ∷ goes 1 1
+
+abbrev pub exits : ℕ → List Move
+exits p = by p 5 0 ∷ []
+
+-- what an owner's exit led to before it was refused: thread 1 locks mutex 1 and exits. `run` makes moves whether they have a cause or not.
+abbrev pub exited : List Move
+exited = locked 1 ++ exits 1
+
+abbrev pub left-owner : reference.State
+left-owner = run (start (config 1 1 1 1)) exited
+
+-- the answers to moves from a start with 8 mutexes, two processors and a thread for each
+abbrev pub answers : List Move → List ℕ
+answers ms = refusals (started (config 2 2 8 2) .session) journal ms
+
+pub record OwnerExits : Type 0 where
+  -- the owner of the first mutex or of the last; of one that its last call was not about; and again
+  pub first-mutex : answers (locked 1 ++ exits 1) ≡ 0 ∷ 0 ∷ 21 ∷ []
+  pub last-mutex : answers (locked 8 ++ exits 1) ≡ 0 ∷ 0 ∷ 21 ∷ []
+  pub other-mutex : answers (second-left ++ exits 1 ++ exits 1) ≡ replicate 6 0 ++ 21 ∷ 21 ∷ []
+  -- 2, 3 and 4 come before it
+  pub order : answers (locked 1 ++ exits 3 ++ by 1 5 1 ∷ by 1 4 0 ∷ exits 1) ≡ 0 ∷ 0 ∷ 2 ∷ 3 ∷ 0 ∷ 4 ∷ []
+  -- an unlock is begun, and the thread still is the owner until U1; then it exits, and another that owns nothing exits at any time
+  pub unlocked : answers (locked 1 ++ exits 2 ++ by 1 3 1 ∷ exits 1 ++ goes 1 1 ++ exits 1) ≡ 0 ∷ 0 ∷ 0 ∷ 0 ∷ 4 ∷ 0 ∷ 0 ∷ []
+  -- what an owner's exit would lead to: by history the mutex has an owner that has exited,
+  pub law-broken : Owns (config 1 1 1 1) exited 1 1 × (ended (config 1 1 1 1) exited 1 ≡ true)
+  -- so where an old session has one, every move is refused by 16, lent the journal that led there;
+  pub journal-refused : (a : Move) → moved (session-record left-owner 1) (with-front journal (bytes exited)) a .refusal ≡ 16
+  -- its picture, in which thread 1 has exited and owns the mutex, reads as ever
+  pub pictured : picture left-owner ≡ 1 ∷ 1 ∷ 1 ∷ 0 ∷ 0 ∷ 3 ∷ 0 ∷ 0 ∷ 1 ∷ 0 ∷ 0 ∷ 0 ∷ 0 ∷ 0 ∷ 0 ∷ 0 ∷ 0 ∷ 0 ∷ 0 ∷ 0 ∷ 1 ∷ 0 ∷ 1 ∷ 0 ∷ 0 ∷ 0 ∷ 0 ∷ 0 ∷ 5 ∷ 0 ∷ 0 ∷ 0 ∷ []
+  pub read-back : read (picture left-owner) ≡ record { refusal = 0; state = encode left-owner }

@@ -52,4 +52,7 @@ impl Refusal {
 
     // Scripts that are none.
     pub const BAD_SCRIPT: u8 = 19;
+
+    // An exit by a thread that owns a mutex.
+    pub const STILL_OWNER: u8 = 21;
 }

@@ -24,7 +24,7 @@ use Rattle.step.specs.declared.Decision.{Decision}
 use Rattle.step.specs.declared.Moved.{Moved}
 use Rattle.step.specs.declared.Run.{Run}
 use Rattle.step.specs.declared.Sizes.{Sizes}
-use Rattle.step.specs.model.Moves.{target-of, index-of, view-of, seen-of, carried, carried-firsts, carried-threads, act-effect, up-to, gathered-of, move-view, cause-of, cause-seen, step-breaks-of, refusal-of, stepped-of, moved-of, moved-at, sizes-of, act-outcome, refusal-seen, decision, ran, run-from, run-of, noted, noted-at, counted-from, counted-of}
+use Rattle.step.specs.model.Moves.{target-of, index-of, view-of, seen-of, carried, carried-firsts, carried-threads, act-effect, up-to, gathered-of, owns-none, owning-of, move-view, cause-of, cause-seen, step-breaks-of, refusal-of, stepped-of, moved-of, moved-at, sizes-of, act-outcome, refusal-seen, decision, ran, run-from, run-of, noted, noted-at, counted-from, counted-of}
 use Rattle.step.proofs.Keeps.{keeps}
 use Rattle.step.proofs.Put.{carried-first, carried-bytes, length-firsts, length-threads}
 
@@ -59,7 +59,7 @@ tried-is s p (suc a) o z = rw (ne-eqb (suc a) 0 (λ e. omega arith)) (by _ (leb 
     by broken false e = absurd (no-action s p (suc a) o (leb-false (suc a) 6 e) z)
 
 -- the refusal of its decision
-decided : (s : State) (p a o : ℕ) → refusal-seen (sizes-of s) (move-view s p a o) (thread-of s o .status) a o ≡ refusal-of s p a o
+decided : (s : State) (p a o : ℕ) → refusal-seen (sizes-of s) (move-view s p a o) (owning-of s p a) (thread-of s o .status) a o ≡ refusal-of s p a o
 unfolding refusal-seen refusal-of
 decided s p a o = by (eqb (cause-of s p a o) 0) refl
   where
@@ -268,6 +268,8 @@ pub record Reading (start : State) (j first : List ℕ) : Type 0 where
   pub view-is : view ≡ seen-of firsts bytes (state .stealing) (state .p) (getD j (3 * made) 0) processor target mutex
   pub sizes : Sizes
   pub sizes-is : sizes ≡ sizes-of state
+  pub owning : Bool
+  pub owning-is : owning ≡ eqb (getD j (3 * made + 1) 0) 5 && not (owns-none mutexes (state .m) (processor .current))
 
 module _ {start : State} {j first : List ℕ} (here : Reading start j first) where
   abbrev i : ℕ
@@ -323,6 +325,9 @@ module _ {start : State} {j first : List ℕ} (here : Reading start j first) whe
   sees =
       here .view-is ∙ seen-view whole p m b r (here .mutex) (g .bytes) (here .processor-is) (here .mutex-is) ∙ ap (view-of whole p) target-is
 
+  owns : here .owning ≡ owning-of whole p a
+  owns = here .owning-is ∙ ap (λ (q : Processor). eqb a 5 && not (owns-none xs (s .m) (q .current))) (here .processor-is)
+
   -- refused by k, whatever the cause
   stopped : (k : ℕ) → k ≡ refusal-of whole p a o → (k ≡ 0 → ⊥) → (ran k i whole ≡ run-of start j) × (calls ≡ counted-of start j first)
   stopped k e z = (
@@ -330,13 +335,14 @@ module _ {start : State} {j first : List ℕ} (here : Reading start j first) whe
     sym (counted-stop j (length j / 3) i whole (here .more) calls (λ q. z (e ∙ q))) ∙ g .uncounted,
   )
 
-  module _ (d : Decision) (d-is : d ≡ decision (here .sizes) v (getD b (3 * o) 0) a o) where
-    decides : d ≡ decision (sizes-of whole) (move-view whole p a o) (thread-of whole o .status) a o
+  module _ (d : Decision) (d-is : d ≡ decision (here .sizes) v (here .owning) (getD b (3 * o) 0) a o) where
+    decides : d ≡ decision (sizes-of whole) (move-view whole p a o) (owning-of whole p a) (thread-of whole o .status) a o
     decides =
         d-is ∙
-        ap (λ (q : Sizes). decision q v (getD b (3 * o) 0) a o) (here .sizes-is) ∙
-        ap (λ (q : View). decision (sizes-of s) q (getD b (3 * o) 0) a o) sees ∙
-        ap (λ (n : ℕ). decision (sizes-of s) (move-view whole p a o) n a o)
+        ap (λ (q : Sizes). decision q v (here .owning) (getD b (3 * o) 0) a o) (here .sizes-is) ∙
+        ap (λ (q : View). decision (sizes-of s) q (here .owning) (getD b (3 * o) 0) a o) sees ∙
+        ap (λ (x : Bool). decision (sizes-of s) (move-view whole p a o) x (getD b (3 * o) 0) a o) owns ∙
+        ap (λ (n : ℕ). decision (sizes-of s) (move-view whole p a o) (owning-of whole p a) n a o)
         (ap (λ (l : List ℕ). getD l (3 * o) 0) (g .bytes) ∙ bytes-status (g .threads) o)
 
     refusal-is : d .refusal ≡ refusal-of whole p a o
@@ -347,7 +353,7 @@ module _ {start : State} {j first : List ℕ} (here : Reading start j first) whe
     running-stop = stopped (d .refusal) refusal-is
 
     module _ (z : d .refusal ≡ 0) where
-      accepts : eqb (refusal-seen (here .sizes) v (getD b (3 * o) 0) a o) 0 ≡ true
+      accepts : eqb (refusal-seen (here .sizes) v (here .owning) (getD b (3 * o) 0) a o) 0 ≡ true
       unfolding decision
       accepts = eq-eqb _ 0 (sym (ap (λ (q : Decision). q .refusal) d-is) ∙ z)
 

@@ -1,4 +1,4 @@
-// Why a move is refused before it is tried, by what it sees: the first of 2, 3, 8, 4 or 5, 6, 7 that is there, else 0.
+// Why a move is refused before it is tried, by what it sees: the first of 2, 3, 8, 4 or 5, 6 or 21 or 7 that is there, else 0.
 ghost use mathlib.Core.Path.{_≡_};
 ghost use Prim.Native.Nat.{_*_};
 ghost use lib.ListN.{getD};
@@ -6,9 +6,10 @@ ghost use mathlib.Core.Bool.{true, false, _&&_, not};
 ghost use lib.Dec.{eqb};
 ghost use Rattle.reference.specs.Refusal.{not-new, refuse};
 ghost use Rattle.reference.specs.Cause.{first-cause};
-ghost use Rattle.step.specs.model.Moves.{operand-fits, facts-of, cause-seen};
+ghost use Rattle.step.specs.model.Moves.{operand-fits, facts-of, cause-seen, owns-none};
 use crate::Sizes;
 use crate::View;
+use state::Mutex;
 use state::Position;
 use state::queues::status_in;
 use state::range::in_range;
@@ -35,7 +36,7 @@ pub(crate) fn sizes(p: u8, t: u8, m: u8, applied: u16) -> Sizes
 
 // A go of a processor that is there: its operand is 0, and at App there is no line.
 pub(crate) fn go_refusal(z: Sizes, v: View, operand: u8) -> u8
-    ensures { λ r. ⌜ r ≡ first-cause (facts-of true true z v 0 0 operand) ⌝ }
+    ensures { λ r. ⌜ r ≡ first-cause (facts-of true true z v false 0 0 operand) ⌝ }
 {
     let r = v.proc;
     if operand != 0 {
@@ -61,9 +62,31 @@ pub(crate) fn create_refusal(threads: &[u8], action: u8, operand: u8) -> u8
     if status != 0 { Refusal::NOT_NEW } else { 0 }
 }
 
-// A call of a processor that is there: it is made at App only, unlock by the owner.
-pub(crate) fn call_refusal(threads: &[u8], z: Sizes, v: View, action: u8, operand: u8) -> u8
-    ensures { λ r. ⌜ r ≡ first-cause (facts-of true false z v (getD (now (threads .entry)) (3 * operand) 0) action operand) ⌝ }
+// Thread k owns none of the mutexes 1 to m. Only an exit asks for it.
+pub(crate) fn owns_none(mutexes: [Mutex; 9], m: u8, k: u8) -> bool
+    ensures { λ r. ⌜ r ≡ owns-none mutexes m k ⌝ }
+{
+    let mut ok = true;
+    let mut i: u8 = 0;
+    while i < m {
+        i += 1;
+        let j = i as usize;
+        let x = if j < 9 { mutexes[j] } else { Mutex::zero() };
+        ok = ok & (x.owner != k);
+    }
+    ok
+}
+
+// A call of a processor that is there: it is made at App only, unlock by the owner, exit by no owner.
+pub(crate) fn call_refusal(
+    threads: &[u8],
+    z: Sizes,
+    v: View,
+    owning: bool,
+    action: u8,
+    operand: u8,
+) -> u8
+    ensures { λ r. ⌜ r ≡ first-cause (facts-of true false z v owning (getD (now (threads .entry)) (3 * operand) 0) action operand) ⌝ }
 {
     let r = v.proc;
     let x = v.mutex;
@@ -80,12 +103,15 @@ pub(crate) fn call_refusal(threads: &[u8], z: Sizes, v: View, action: u8, operan
     if (action == 3) & (x.owner != r.current) {
         return Refusal::NOT_OWNER;
     }
+    if (action == 5) & owning {
+        return Refusal::STILL_OWNER;
+    }
     create_refusal(threads, action, operand)
 }
 
 // The threads are bytes, and the operand names one of them.
-pub(crate) fn cause(threads: &[u8], z: Sizes, v: View, action: u8, operand: u8) -> u8
-    ensures { λ r. ⌜ r ≡ cause-seen z v (getD (now (threads .entry)) (3 * operand) 0) action operand ⌝ }
+pub(crate) fn cause(threads: &[u8], z: Sizes, v: View, owning: bool, action: u8, operand: u8) -> u8
+    ensures { λ r. ⌜ r ≡ cause-seen z v owning (getD (now (threads .entry)) (3 * operand) 0) action operand ⌝ }
 {
     let there = in_range(1, z.p, v.number);
     if !there {
@@ -94,5 +120,5 @@ pub(crate) fn cause(threads: &[u8], z: Sizes, v: View, action: u8, operand: u8) 
     if action == 0 {
         return go_refusal(z, v, operand);
     }
-    call_refusal(threads, z, v, action, operand)
+    call_refusal(threads, z, v, owning, action, operand)
 }

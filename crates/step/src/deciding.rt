@@ -24,10 +24,17 @@ pub(crate) fn refused(refusal: u8, v: View) -> Decision
 }
 
 // The first cause that is there before the move is tried, then 15, else its effect. The threads are bytes, and the operand names one of them.
-pub(crate) fn decide(threads: &[u8], z: Sizes, v: View, action: u8, operand: u8) -> Decision
-    ensures { λ r. ⌜ r ≡ decision z v (getD (now (threads .entry)) (3 * operand) 0) action operand ⌝ }
+pub(crate) fn decide(
+    threads: &[u8],
+    z: Sizes,
+    v: View,
+    owning: bool,
+    action: u8,
+    operand: u8,
+) -> Decision
+    ensures { λ r. ⌜ r ≡ decision z v owning (getD (now (threads .entry)) (3 * operand) 0) action operand ⌝ }
 {
-    let first = cause(threads, z, v, action, operand);
+    let first = cause(threads, z, v, owning, action, operand);
     if first != 0 {
         return refused(first, v);
     }

@@ -9,6 +9,7 @@ use crate::Status;
 use crate::Transfer;
 use crate::View;
 use crate::calls::note_move;
+use crate::cause::owns_none;
 use crate::cause::sizes;
 use crate::deciding::decide;
 use crate::registers::by_fields;
@@ -164,9 +165,8 @@ pub fn run(mut s: State, moves: &[u8], calls: &mut [u16]) -> Run
     ensures calls { λ r. ⌜ now (calls .exit) ≡ counted-of s (now (moves .entry)) (now (calls .entry)) ⌝ }
 {
     let chains = s.chains;
-    let threads = chains.threads;
     let mut firsts = chains.firsts;
-    let mut bytes = bytes_of(threads);
+    let mut bytes = bytes_of(chains.threads);
     let mut processors = s.processors;
     let mut mutexes = s.mutexes;
     let nobody = Processor::zero();
@@ -184,18 +184,16 @@ pub fn run(mut s: State, moves: &[u8], calls: &mut [u16]) -> Run
         let x = mutex_by_fields(if j < 9 { mutexes[j] } else { free });
         let v = look(&firsts, &bytes, s.stealing, s.p, p, r, m, x);
         let z = sizes(s.p, s.t, s.m, s.applied);
-        let done = decide(&bytes, z, v, action, operand);
+        let owning = action == 5 && !owns_none(mutexes, s.m, r.current);
+        let done = decide(&bytes, z, v, owning, action, operand);
         if done.refusal != 0 {
             return ended(done.refusal, made, s, firsts, &bytes, processors, mutexes);
         }
         note_move(calls, action, r.current);
         let e = done.effect;
-        let transfer = e.transfer;
-        carry(&mut firsts, &mut bytes, p, transfer);
-        if done.writes {
-            if j < 9 {
-                mutexes[j] = mutex_by_fields(e.mutex);
-            }
+        carry(&mut firsts, &mut bytes, p, e.transfer);
+        if done.writes && j < 9 {
+            mutexes[j] = mutex_by_fields(e.mutex);
         }
         if i < 9 {
             processors[i] = by_fields(e.proc);

@@ -13,10 +13,10 @@ use Rattle.state.specs.declared.Chains.{Chains}
 use Rattle.state.specs.declared.State.{State}
 use Rattle.state.specs.declared.queues.Taken.{Taken}
 use Rattle.state.specs.declared.queues.Taken.the-variants.{Thread, Nothing}
-use Rattle.state.specs.Record.{zero-token, processor-of, mutex-of, thread-of}
+use Rattle.state.specs.Record.{zero-token, mutex-in, processor-of, mutex-of, thread-of}
 use Rattle.state.specs.model.Access.{taken-in, with-thread, joined-firsts, joined-threads, taken, removed, joined, placed, with-processor, with-mutex, with-chains, with-applied}
 use Rattle.reference.specs.Refusal.{bad-record}
-use Rattle.reference.specs.Lists.{choose, if-zero, in-range, around}
+use Rattle.reference.specs.Lists.{choose, if-zero, in-range, around, each}
 use Rattle.reference.specs.State.{queues}
 use Rattle.reference.specs.Cause.{Facts, first-cause}
 use Rattle.step.specs.declared.View.{View}
@@ -271,10 +271,14 @@ operand-fits z a o = choose (in-range 1 3 a) (in-range 1 (z .m) o) (choose (eqb 
 abbrev pub sizes-of : State → Sizes
 sizes-of s = record { p = s .p; t = s .t; m = s .m; applied = s .applied }
 
--- what decides the cause of action a with operand o, by what it sees and by the status of the thread that its operand names;
+-- thread k owns none of the mutexes 1 to m
+abbrev pub owns-none : List Mutex → ℕ → ℕ → Bool
+owns-none mutexes m k = each (λ i. not (eqb (mutex-in mutexes i .owner) k)) 1 m
+
+-- what decides the cause of action a with operand o, by what it sees, whether its thread owns a mutex, and the status of the thread that its operand names;
 -- whether the processor is there and whether the action is go are handed in
-abbrev pub facts-of : Bool → Bool → Sizes → View → ℕ → ℕ → ℕ → Facts
-facts-of there goes z v status a o =
+abbrev pub facts-of : Bool → Bool → Sizes → View → Bool → ℕ → ℕ → ℕ → Facts
+facts-of there goes z v owning status a o =
     record {
       there = there;
       fits = leb a 6 && operand-fits z a o;
@@ -283,12 +287,14 @@ facts-of there goes z v status a o =
       at-app = eqb (v .proc .position) 0;
       unlocks = eqb a 3;
       owner = eqb (v .mutex .owner) (v .proc .current);
+      exits = eqb a 5;
+      owning = owning;
       creates = eqb a 6;
       is-new = eqb status 0;
     }
 
-unfoldable pub cause-seen : Sizes → View → ℕ → ℕ → ℕ → ℕ
-cause-seen z v status a o = first-cause (facts-of (in-range 1 (z .p) (v .number)) (eqb a 0) z v status a o)
+unfoldable pub cause-seen : Sizes → View → Bool → ℕ → ℕ → ℕ → ℕ
+cause-seen z v owning status a o = first-cause (facts-of (in-range 1 (z .p) (v .number)) (eqb a 0) z v owning status a o)
 
 abbrev pub nothing-there : Taken → Bool
 nothing-there q = on-taken q true (λ k rest. false)
@@ -321,17 +327,17 @@ act-outcome t a o v =
 -- ---- a move's decision
 
 -- the first cause, then 15
-unfoldable pub refusal-seen : Sizes → View → ℕ → ℕ → ℕ → ℕ
-refusal-seen z v status a o =
-    let n = cause-seen z v status a o in
+unfoldable pub refusal-seen : Sizes → View → Bool → ℕ → ℕ → ℕ → ℕ
+refusal-seen z v owning status a o =
+    let n = cause-seen z v owning status a o in
     choose (eqb n 0) (choose (act-outcome (z .t) a o v .broken) bad-record 0) n
 
 -- refused, the view is left
-unfoldable pub decision : Sizes → View → ℕ → ℕ → ℕ → Decision
-decision z v status a o =
-    let accepted = eqb (refusal-seen z v status a o) 0 in
+unfoldable pub decision : Sizes → View → Bool → ℕ → ℕ → ℕ → Decision
+decision z v owning status a o =
+    let accepted = eqb (refusal-seen z v owning status a o) 0 in
     record {
-      refusal = refusal-seen z v status a o;
+      refusal = refusal-seen z v owning status a o;
       writes = accepted && act-outcome (z .t) a o v .writes;
       effect = choose accepted (act-outcome (z .t) a o v .effect) (stay v);
     }
@@ -363,8 +369,12 @@ carried c p (Mark k status holder) = placed c k (record { status = status; holde
 abbrev pub move-view : State → ℕ → ℕ → ℕ → View
 move-view s p a o = view-of s p (target-of a (processor-of s p .mutex) o)
 
+-- whether processor p's thread owns a mutex, which only an exit asks
+abbrev pub owning-of : State → ℕ → ℕ → Bool
+owning-of s p a = eqb a 5 && not (owns-none (s .mutexes) (s .m) (processor-of s p .current))
+
 abbrev pub cause-of : State → ℕ → ℕ → ℕ → ℕ
-cause-of s p a o = cause-seen (sizes-of s) (move-view s p a o) (thread-of s o .status) a o
+cause-of s p a o = cause-seen (sizes-of s) (move-view s p a o) (owning-of s p a) (thread-of s o .status) a o
 
 unfoldable pub step-breaks-of : State → ℕ → ℕ → Bool
 step-breaks-of s p a = eqb a 0 && breaks-at (s .t) (view-of s p (processor-of s p .mutex))

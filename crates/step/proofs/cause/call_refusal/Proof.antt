@@ -51,6 +51,23 @@ returns-5 c =
       lt-leb _ _ (second .if2 .left),
       eq-eqb _ _ (third .if3 .left),
       fourth .if4 .left,
+      c .if5 .taken,
+    )
+
+returns-6 : tie.Need-returns-6
+returns-6 c =
+    let fifth = c .before in
+    let fourth = fifth .before in
+    let third = fourth .before .before .before in
+    let second = third .before .before in
+    let first = second .before .before in
+    rw (
+      ← first .before .operand-fits .ensures,
+      first .if1 .left,
+      lt-leb _ _ (second .if2 .left),
+      eq-eqb _ _ (third .if3 .left),
+      fourth .if4 .left,
+      fifth .if5 .left,
       c .create-refusal .ensures,
     )
 
@@ -63,5 +80,6 @@ call-refusal-spec =
     returns-2
     returns-3
     returns-4
+    returns-5
     (λ c κs. search needs)
-    returns-5)
+    returns-6)
