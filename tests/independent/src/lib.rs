@@ -1,6 +1,7 @@
 //! An independent implementation of the hand-off machine of document 01, of the
 //! journal's test at each call (document 02, No. 6), of scripted threads (No. 7),
-//! of marks (No. 12) and of a ready queue for each processor (No. 13).
+//! of exits that owners are refused (No. 9), of marks (No. 12) and of a ready
+//! queue for each processor (No. 13).
 //!
 //! Terms of document 01 and the names used here: loaded is `current`, hand is
 //! `transit`, rank is `sequence`, seen is `observed`, standing moves are
@@ -28,6 +29,7 @@
 //! - `spelling`: commands as lines.
 //! - `slips`: lines that are no command of it.
 //! - `worked`: the worked sessions of document 01.
+//! - `owners`: owners by each line, and sessions from before No. 9 in which one exits.
 
 pub mod chains;
 pub mod chart;
@@ -36,6 +38,7 @@ pub mod journal;
 pub mod lines;
 pub mod machine;
 pub mod marks;
+pub mod owners;
 pub mod picture;
 pub mod plain;
 pub mod program;

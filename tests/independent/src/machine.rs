@@ -276,7 +276,7 @@ impl State {
         &mut self.mutexes[index(m)]
     }
 
-    /// The first cause to refuse a move, in the order 2, 3, 8, 4 or 5, 6, 7, 15 (step).
+    /// The first cause to refuse a move, in the order 2, 3, 8, 4 or 5, then 6, 7 or 21, 15 (step).
     pub fn cause(&self, [p, action, operand]: Move) -> Option<u8> {
         if !(1..=self.processor_count()).contains(&p) {
             return Some(2);
@@ -300,10 +300,17 @@ impl State {
         if action == CREATE && self.life(operand) != Life::Unborn {
             return Some(7);
         }
+        if action == EXIT && self.owns_any(here.current) {
+            return Some(21);
+        }
         if action == GO && self.line_leaves_rules(p) {
             return Some(15);
         }
         None
+    }
+
+    pub fn owns_any(&self, thread: u8) -> bool {
+        self.mutexes.iter().any(|mutex| mutex.owner == thread)
     }
 
     /// False for an action over 6 as well.

@@ -46,6 +46,16 @@ impl History {
             self.owners[usize::from(before.mutex) - 1].remove(&before.current);
         }
     }
+
+    pub fn life(&self, config: Config, thread: u8) -> Life {
+        if self.ended.contains(&thread) {
+            Life::Ended
+        } else if thread > config.born && !self.created.contains(&thread) {
+            Life::Unborn
+        } else {
+            Life::Alive
+        }
+    }
 }
 
 /// The plain session.
@@ -114,8 +124,8 @@ pub fn place_count(state: &State, history: &History, config: Config, thread: u8)
     in_ready + in_mutexes + in_registers + usize::from(unborn) + usize::from(ended)
 }
 
-/// The laws: at most one owner by history, exactly one place, nobody left waiting.
-/// Also that the owner field and the lives agree with the history.
+/// The laws: at most one owner by history, a living thread; exactly one place; nobody left
+/// waiting. Also that the owner field and the lives agree with the history.
 pub fn check_laws(state: &State, history: &History, config: Config) -> Result<(), String> {
     for (m, (owners, mutex)) in (1..).zip(history.owners.iter().zip(&state.mutexes)) {
         if owners.len() > 1 {
@@ -123,6 +133,9 @@ pub fn check_laws(state: &State, history: &History, config: Config) -> Result<()
         }
         if owners.first().copied().unwrap_or(0) != mutex.owner {
             return Err(format!("mutex {m}: owner {} but by history {owners:?}", mutex.owner));
+        }
+        if owners.iter().any(|&owner| history.life(config, owner) != Life::Alive) {
+            return Err(format!("mutex {m}: its owner {owners:?} does not live"));
         }
         if !mutex.queue.is_empty() && owners.is_empty() && !call_under_way(state, m) {
             return Err(format!("mutex {m}: {:?} left waiting", mutex.queue));
@@ -133,14 +146,7 @@ pub fn check_laws(state: &State, history: &History, config: Config) -> Result<()
         if places != 1 {
             return Err(format!("thread {thread} has {places} places"));
         }
-        let life = if history.ended.contains(&thread) {
-            Life::Ended
-        } else if thread > config.born && !history.created.contains(&thread) {
-            Life::Unborn
-        } else {
-            Life::Alive
-        };
-        if life != state.life(thread) {
+        if history.life(config, thread) != state.life(thread) {
             return Err(format!("thread {thread} is {:?}", state.life(thread)));
         }
     }

@@ -91,19 +91,21 @@ pub enum Call {
     Undo,
 }
 
-/// How often a driver asks for calls that will likely be refused and for undos.
+/// How often a driver asks for calls that will likely be refused, for exits by owners and for undos.
 #[derive(Clone, Copy, PartialEq, Eq, Debug)]
 pub struct Rates {
     /// One call in this many is likely refused; 0 for none.
     pub refused: usize,
     /// One call in this many begins a run of undos; 0 for none.
     pub undo: usize,
+    /// One call in this many is an exit by an owner, where one is at App; 0 for none.
+    pub owner_exits: usize,
 }
 
 impl Rates {
-    pub const USUAL: Rates = Rates { refused: 16, undo: 120 };
+    pub const USUAL: Rates = Rates { refused: 16, undo: 120, owner_exits: 40 };
     /// Only moves that the state accepts.
-    pub const ACCEPTED: Rates = Rates { refused: 0, undo: 0 };
+    pub const ACCEPTED: Rates = Rates { refused: 0, undo: 0, owner_exits: 0 };
 }
 
 /// Chooses the calls of one session.
@@ -158,7 +160,22 @@ impl Driver {
         if self.rates.refused != 0 && self.generator.once_in(self.rates.refused) {
             return Call::Move(self.odd_move(state));
         }
+        if self.rates.owner_exits != 0 && self.generator.once_in(self.rates.owner_exits) {
+            if let Some(exit) = self.owner_exit(state) {
+                return Call::Move(exit);
+            }
+        }
         Call::Move(self.likely_move(state))
+    }
+
+    /// An exit by a thread that owns a mutex, refused by 21.
+    fn owner_exit(&mut self, state: &State) -> Option<Move> {
+        let owns = |&p: &u8| {
+            let here = state.processor(p);
+            here.position == Position::App && state.owns_any(here.current)
+        };
+        let owners: Vec<u8> = (1..=state.processor_count()).filter(owns).collect();
+        (!owners.is_empty()).then(|| [self.generator.pick(&owners), EXIT, 0])
     }
 
     /// A move that the state accepts (unless 4,000 are applied).
@@ -286,9 +303,9 @@ impl Driver {
         if choice < 5 && !unborn.is_empty() {
             return [p, CREATE, self.generator.pick(&unborn)];
         }
-        // Now and then an owner exits, or one of the last threads.
+        // Now and then one of the last threads exits; an owner may not, and yields.
         if choice < 6 && (alive > 3 && owned.is_empty() || self.generator.once_in(40)) {
-            return [p, EXIT, 0];
+            return [p, if owned.is_empty() { EXIT } else { YIELD }, 0];
         }
         if choice < 11 {
             return [p, YIELD, 0];
@@ -320,7 +337,7 @@ impl Driver {
         }
     }
 
-    /// A move that is often refused, by any of 2 to 7.
+    /// A move that is often refused, by any of 2 to 7, rarely by 21.
     pub fn odd_move(&mut self, state: &State) -> Move {
         let p = self.generator.between(1, state.processor_count());
         let action = self.generator.between(0, CREATE);

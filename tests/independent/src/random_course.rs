@@ -16,7 +16,7 @@ use crate::random::{is_stuck, Call, Driver, Generator, Rates};
 use crate::spelling;
 use crate::worked::Worked;
 
-const RATES: Rates = Rates { refused: 12, undo: 60 };
+const RATES: Rates = Rates { refused: 12, undo: 60, owner_exits: 0 };
 
 /// An input of so many lines, or a few more. The last line may have no line feed.
 pub fn input(seed: u64, lines: usize) -> Vec<u8> {

@@ -104,8 +104,8 @@ impl Generator {
         bytes
     }
 
-    /// A few calls that belong together, at most `room`. What leaves a mutex owned for good or
-    /// ends in a call that is refused for good is rare.
+    /// A few calls that belong together, at most `room`. What ends in a call that is refused for
+    /// good is rare; a script that leaves its thread an owner ends in a refused exit.
     fn phrase(&mut self, config: Config, room: usize) -> Vec<Call> {
         let any = self.between(1, config.mutexes);
         let m = if self.once_in(2) { any } else { 1 };

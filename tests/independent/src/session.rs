@@ -13,8 +13,8 @@ pub fn start(config: Config) -> Answer<Record> {
     Answer::accepted(Record::of(&State::start(config), config.born))
 }
 
-/// Makes a move and notes it in the journal; refused by 10, 15, 16, 2, 3, 8, 4 or 5, 6, 7 with
-/// the record handed in, the journal unchanged. No step from a tested journal is refused by 15.
+/// Makes a move and notes it in the journal; refused by 10, 15, 16, 2, 3, 8, 4 or 5, then 6, 7 or 21
+/// with the record handed in, the journal unchanged. No step from a tested journal is refused by 15.
 pub fn make_move(record: &Record, journal: &mut [u8], made: Move) -> Answer<Record> {
     record.answer(moved(record, journal, made))
 }

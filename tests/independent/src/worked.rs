@@ -33,6 +33,10 @@ impl Worked {
         self
     }
 
+    pub fn with_stealing(self, stealing: u8) -> Worked {
+        Worked { config: self.config.with_stealing(stealing), ..self }
+    }
+
     /// The session's first `count` moves.
     pub fn front(&self, count: usize) -> Worked {
         Worked { config: self.config, moves: self.moves[..count].to_vec() }

@@ -225,7 +225,8 @@ fn class_after_plain_moves() {
     let mut lesson = Lesson::new(&begun.call(1, YIELD, 0).go(1, 1), scripts, vec![1, 1, 1]);
     assert_eq!(lesson.take(), 0);
     let front = session::front(&lesson.record, &lesson.journal).value;
-    assert_eq!(front[6..], [1, LOCK, 1, 1, GO, 0, 1, EXIT, 0]);
+    assert_eq!(front[6..], [1, LOCK, 1, 1, GO, 0]);
+    assert_eq!(lesson.answers, [0, 0, 21]);
 }
 
 /// After 4,000 moves: 2 and 3 as before, else 8, and the picture stays.
@@ -386,7 +387,8 @@ fn laws_of_classes(stealing: u8) {
     println!("{} branches {:?}", coverage.branches.len(), coverage.branches);
     println!("{} calls after a migration", coverage.migrations);
     let met: Vec<u8> = coverage.answers.keys().copied().collect();
-    assert_eq!(met, [0, 2, 3, 6, 7, 8]);
+    assert_eq!(met, [0, 2, 3, 6, 7, 8, 21]);
+    assert!(coverage.answers[&21] > 1_000);
     assert!(coverage.calls.iter().all(|&count| count > 1_000));
     assert!(coverage.migrations > 1_000);
     // As many as plain sessions meet.

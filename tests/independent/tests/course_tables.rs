@@ -124,7 +124,7 @@ move  1          2          changes
 fn chart_of_calls() {
     let k7 = worked::k7();
     let moves = Worked { config: Config { threads: 32, ..k7.config }, ..k7.clone() };
-    let moves = moves.call(1, CREATE, 32).go(1, 1).call(1, YIELD, 0).go(1, 3).call(3, EXIT, 0);
+    let moves = moves.call(1, CREATE, 32).go(1, 1).call(1, YIELD, 0).go(1, 5).call(1, EXIT, 0);
     let chart = chart(moves.config, &moves.moves);
     let last: Vec<&str> = chart.lines().skip(9).collect();
     assert_eq!(
@@ -145,7 +145,9 @@ fn chart_of_calls() {
 21    Y1
 22    Y2
 23    Y3                               ready: +1
-24                          exit"
+24    CI2                              ready: -32
+25    CI3
+26    exit"
     );
 }
 

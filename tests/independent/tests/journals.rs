@@ -2,7 +2,10 @@
 //! among the other numbers, and journals of other sessions that give the same record.
 
 use independent::journal::JOURNAL;
-use independent::machine::{Config, Move, State, CREATE, EXIT, GO, LOCK, TRYLOCK, UNLOCK, YIELD};
+use independent::machine::{
+    Config, Move, Position, State, CREATE, EXIT, GO, LOCK, TRYLOCK, UNLOCK, YIELD,
+};
+use independent::owners;
 use independent::picture;
 use independent::random::{Driver, Generator, Rates};
 use independent::record::Record;
@@ -103,6 +106,10 @@ fn before_the_causes_of_a_move() {
         assert_eq!(move_number(&record, &journal, made), number);
         assert_eq!(move_number(&record, &edited, made), 16);
     }
+    let owner = worked.front(2);
+    assert_eq!(move_number(&owner.record(), &journal, [1, EXIT, 0]), 21);
+    edited[2] = 2;
+    assert_eq!(move_number(&owner.record(), &edited, [1, EXIT, 0]), 16);
     let full = worked::k10(4_000);
     let mut journal = full.journal();
     assert_eq!(move_number(&full.record(), &journal, [1, GO, 0]), 8);
@@ -255,7 +262,11 @@ fn bytes_past_the_applied_moves() {
             assert_eq!(tested(&record, &other), 0);
             let made = driver.likely_move(&worked.state());
             assert_eq!(move_number(&record, &other, made), 0);
-            assert_eq!(turn_number(&record, &other, &EXITS, made[0]), 0);
+            let here = *worked.state().processor(made[0]);
+            let at_app = here.position == Position::App;
+            let refused = at_app && worked.state().owns_any(here.current);
+            let number = if refused { 21 } else { 0 };
+            assert_eq!(turn_number(&record, &other, &EXITS, made[0]), number);
         }
     }
 }
@@ -299,6 +310,31 @@ fn nothing_applied() {
         record.snapshot.applied = 0;
         assert_eq!(move_number(&record, &[0; JOURNAL], [1, GO, 0]), 16);
         assert_eq!(turn_number(&record, &[0; JOURNAL], &EXITS, 1), 16);
+    }
+}
+
+/// A journal in which an owner exits is refused at every call, also with the record that was given
+/// while such an exit was carried out; its moves before the exit are as good as ever.
+#[test]
+fn exits_by_owners() {
+    for old in owners::old() {
+        let (record, journal) = (old.record(), old.session.journal());
+        assert_eq!(tested(&record, &journal), 16, "{}", old.name);
+        for made in [[1, GO, 0], [1, YIELD, 0], [2, GO, 0], [1, LOCK, 1]] {
+            assert_eq!(move_number(&record, &journal, made), 16);
+        }
+        for p in 1..=old.session.config.processors {
+            assert_eq!(turn_number(&record, &journal, &EXITS, p), 16);
+        }
+        let before = old.before_exit();
+        assert_eq!(tested(&before.record(), &journal), 0);
+        assert_eq!(tested(&before.record(), &before.journal()), 0);
+        // With one move more the exit is among them, whatever record is lent.
+        let mut more = before.record();
+        more.snapshot.applied += 1;
+        assert_eq!(tested(&more, &journal), 16);
+        // The front is had without a replay.
+        assert_eq!(session::front(&record, &journal).value, old.session.moves.concat());
     }
 }
 

@@ -249,7 +249,7 @@ fn laws(stealing: u8, least: usize) {
         let config = generator.config().with_stealing(stealing);
         // Some sessions reach the most moves.
         let (calls, rates) = match generator.below(40) {
-            0 => (4_500, Rates { refused: 20, undo: 2_000 }),
+            0 => (4_500, Rates { refused: 20, undo: 2_000, owner_exits: 100 }),
             _ => (50 + generator.below(900), Rates::USUAL),
         };
         seed += 1;
@@ -259,9 +259,10 @@ fn laws(stealing: u8, least: usize) {
     println!("refused {:?}", coverage.refused);
     println!("branches {:?}", coverage.branches);
     println!("later tokens of one processor {}", coverage.same_processor);
-    for number in [2, 3, 4, 5, 6, 7, 8, 9] {
+    for number in [2, 3, 4, 5, 6, 7, 8, 9, 21] {
         assert!(coverage.refused.contains_key(&number), "refusal {number} not met");
     }
+    assert!(coverage.refused[&21] > 1_000);
     use Position::*;
     let branches = [
         (App, L1),
@@ -338,7 +339,7 @@ fn all_sizes() {
 #[test]
 fn plain_session_answers_alike() {
     for seed in 0..40 {
-        let mut driver = Driver::new(seed, Rates { refused: 6, undo: 15 });
+        let mut driver = Driver::new(seed, Rates { refused: 6, undo: 15, owner_exits: 20 });
         let config = driver.generator.config().with_stealing((seed % 2) as u8);
         let mut plain = Plain::new(config);
         let mut record = session::start(config).value;

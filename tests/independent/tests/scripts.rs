@@ -246,7 +246,8 @@ fn bad_operands() {
     }
 }
 
-/// A script of each length is made in order; then the thread exits.
+/// A script of each length is made in order; then the thread exits, unless the last call has left
+/// it an owner.
 #[test]
 fn spent_scripts_exit() {
     let calls = [[LOCK, 1], [UNLOCK, 1], [YIELD, 0], [TRYLOCK, 1], [UNLOCK, 1], [TRYLOCK, 2]];
@@ -258,6 +259,11 @@ fn spent_scripts_exit() {
             assert_eq!(session.last(), [1, *action, *operand]);
             session.turns(&[1]);
             assert_eq!(session.last(), [1, GO, 0]);
+        }
+        if [1, 4, 6].contains(&count) {
+            assert_eq!([session.turn(1), session.turn(1)], [21, 21]);
+            assert_eq!(session.progress(), [count as u16]);
+            continue;
         }
         session.turns(&[1]);
         assert_eq!(session.last(), [1, EXIT, 0]);

@@ -257,18 +257,20 @@ fn rows_past_the_sizes() {
     assert_eq!(picture::write(&record.snapshot, &mut []), 10);
 }
 
-/// An owner that exits still owns; nobody can unlock.
+/// An owner may not exit, and so can unlock; a session that had its exit is refused there.
 #[test]
 fn owner_exits() {
-    let exited =
-        Worked::new(Config::new(1, 2, 1, 2)).call(1, LOCK, 1).go(1, 1).call(1, EXIT, 0).go(1, 2);
-    let (record, mut journal) = made(&exited);
-    let mut session = plain::Plain::new(exited.config);
-    session.moves = exited.moves.clone();
-    let (state, history) = session.work_out();
-    assert!(history.owners[0].contains(&1) && history.owners[0].len() == 1);
-    assert_eq!(state.mutex(1).owner, 1);
-    plain::check_laws(&state, &history, exited.config).unwrap();
-    let answer = session::make_move(&record, &mut journal, [1, UNLOCK, 1]);
-    assert_eq!(answer.number, 6);
+    let config = Config::new(1, 2, 1, 2);
+    let mut session = plain::Plain::new(config);
+    let (mut record, mut journal) = (session::start(config).value, vec![FILLER; JOURNAL]);
+    let exited = [[1, LOCK, 1], [1, GO, 0], [1, EXIT, 0], [1, GO, 0], [1, GO, 0], [1, UNLOCK, 1]];
+    for (made, number) in exited.into_iter().zip([0, 0, 21, 5, 5, 0]) {
+        let answer = session::make_move(&record, &mut journal, made);
+        assert_eq!((answer.number, session.make_move(made)), (number, number), "{made:?}");
+        record = answer.value;
+        let (state, history) = session.work_out();
+        plain::check_laws(&state, &history, config).unwrap();
+        assert_eq!(record.snapshot, Snapshot::of(&state));
+    }
+    assert_eq!(session.moves, [[1, LOCK, 1], [1, GO, 0], [1, UNLOCK, 1]]);
 }

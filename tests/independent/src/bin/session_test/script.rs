@@ -538,7 +538,7 @@ fn random_sessions(s: &mut Script) {
         writeln!(s.0, "# random session {seed}").unwrap();
         writeln!(s.0, "noise {seed}").unwrap();
         s.start(config);
-        let mut driver = Driver::new(seed, Rates { refused: 8, undo: 30 });
+        let mut driver = Driver::new(seed, Rates { refused: 8, undo: 30, owner_exits: 0 });
         let mut states = vec![State::start(config)];
         for count in 1..=250 {
             let state = states.last().expect("a start");

@@ -19,7 +19,7 @@ fn shown(worked: &Worked, more: &[&str]) -> Vec<u8> {
 }
 
 fn random_session(config: Config, seed: u64, calls: usize, show_each: usize) -> Vec<u8> {
-    let mut driver = Driver::new(seed, Rates { refused: 8, undo: 30 });
+    let mut driver = Driver::new(seed, Rates { refused: 8, undo: 30, owner_exits: 0 });
     let mut states = vec![State::start(config)];
     let mut lines = vec![spelling::start(config)];
     for call in 1..=calls {
