@@ -7,6 +7,7 @@ use independent::machine::{
 };
 use independent::owners;
 use independent::picture;
+use independent::plain::{check_laws, History};
 use independent::record::{Record, Snapshot, ENDED};
 use independent::script::{self, script, SCRIPT};
 use independent::session::{self, Ahead};
@@ -272,6 +273,21 @@ fn old_pictures() {
     assert_eq!([2, 4].map(ahead), [1, 2].map(Ahead::Waits));
     assert_eq!([1, 3, 5].map(ahead), [Ahead::NotWaiting; 3]);
     assert_eq!([0, 6].map(ahead), [Ahead::Refused(3); 2]);
+}
+
+/// A terminated owner breaks a law of its own, and no other.
+#[test]
+fn law_of_living_owners() {
+    for old in owners::old() {
+        let (config, state) = (old.session.config, old.record().state().unwrap());
+        let mut history = History::start(config);
+        history.ended.insert(1);
+        for (owners, mutex) in history.owners.iter_mut().zip(&state.mutexes) {
+            owners.extend((mutex.owner != 0).then_some(mutex.owner));
+        }
+        let broken = check_laws(&state, &history, config).unwrap_err();
+        assert!(broken.ends_with("does not live"), "{broken}");
+    }
 }
 
 /// Their moves are accepted up to the exit, which is 21, and what came after it is another session.

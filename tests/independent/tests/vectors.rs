@@ -35,7 +35,7 @@ fn stored_vectors_are_current() {
     for (name, content) in &new {
         assert!(old[name] == *content, "{name} differs");
     }
-    assert!(old.values().map(Vec::len).sum::<usize>() < 4_500_000);
+    assert!(old.values().map(Vec::len).sum::<usize>() < 5_200_000);
 }
 
 /// Runs a program on the stored sessions of a folder.

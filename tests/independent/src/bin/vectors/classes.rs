@@ -2,7 +2,7 @@
 
 use crate::{field, Folder};
 use independent::journal::JOURNAL;
-use independent::machine::{Config, State, CREATE, GO, LOCK, TRYLOCK, UNLOCK, YIELD};
+use independent::machine::{Config, State, CREATE, EXIT, GO, LOCK, TRYLOCK, UNLOCK, YIELD};
 use independent::picture::{self, hex};
 use independent::random::Generator;
 use independent::script::{self, script, Call, SCRIPT};
@@ -124,10 +124,32 @@ fn refused_turns() -> Class {
     Class::new(Config::new(4, 5, 2, 4), &scripts, &turns)
 }
 
-/// Threads without calls exit at once, others when theirs are made; one exits as an owner.
+/// Threads without calls exit at once, others when theirs are made; one is left an owner and may not.
 fn spent() -> Class {
     let scripts: [&[Call]; 4] = [&[], &[[LOCK, 1]], &[[YIELD, 0]; 6], &[[LOCK, 1], [UNLOCK, 1]]];
     Class::new(Config::new(2, 4, 1, 4), &scripts, &[1, 2].repeat(30))
+}
+
+/// Owners whose scripts are spent: one by each way of locking at once, one that is handed the mutex;
+/// a scripted exit; the last thread owns nothing.
+fn owner_exits() -> Class {
+    let scripts: [&[Call]; 6] = [
+        &[[LOCK, 1], [LOCK, 2], [UNLOCK, 1]],
+        &[[TRYLOCK, 3], [EXIT, 0], [UNLOCK, 3]],
+        &[[LOCK, 1]],
+        &[[YIELD, 0]],
+        &[[TRYLOCK, 1], [YIELD, 0]],
+        &[],
+    ];
+    Class::new(Config::new(4, 6, 3, 6), &scripts, &[1, 2, 3, 4, 1, 3, 4].repeat(12))
+}
+
+/// An owner's spent script at the end of 4,000 turns: 21, then 8.
+fn owner_at_most_moves() -> Class {
+    let mut turns = vec![1, 1, 1];
+    turns.extend(vec![2; 3_996]);
+    turns.extend([1, 2, 1, 2, 1, 3, 2]);
+    Class::new(Config::new(2, 1, 1, 1), &[&[[LOCK, 1]]], &turns)
 }
 
 /// Yields that bring threads to other processors, in the midst of their scripts.
@@ -167,6 +189,7 @@ fn named() -> Vec<(String, String)> {
     let shown = [
         ("refused-turns", refused_turns()),
         ("spent", spent()),
+        ("owner-exits", owner_exits()),
         ("migrations", migrations()),
         ("creates", creates()),
         ("no-turns", Class::new(Config::new(1, 1, 1, 1), &[&[[YIELD, 0]]], &[])),
@@ -175,6 +198,7 @@ fn named() -> Vec<(String, String)> {
     ];
     all.extend(shown.iter().map(|(name, class)| (name.to_string(), class.text(true))));
     all.push(("most-moves".to_string(), most_moves().text(false)));
+    all.push(("owner-at-most-moves".to_string(), owner_at_most_moves().text(false)));
     let mut generator = Generator::new(12);
     for seed in 1..=24 {
         let class = Class::random(seed, generator.config(), 40 * seed as usize);
@@ -188,7 +212,7 @@ fn named() -> Vec<(String, String)> {
 /// Classes with a ready queue for each processor.
 fn each() -> Vec<(String, String)> {
     let worked = [
-        ("k5", Worked { config: worked::k5().config.with_stealing(1), ..worked::k5() }),
+        ("k5", worked::k5().with_stealing(1)),
         ("steals-1", worked::steals(1)),
         ("steals-3", worked::steals(3)),
         ("own-queues", worked::own_queues()),
@@ -197,8 +221,12 @@ fn each() -> Vec<(String, String)> {
         .iter()
         .map(|(name, worked)| (format!("each-{name}"), Class::of(worked).text(true)))
         .collect();
-    for (name, class) in [("migrations", migrations()), ("creates", creates()), ("spent", spent())]
-    {
+    for (name, class) in [
+        ("migrations", migrations()),
+        ("creates", creates()),
+        ("spent", spent()),
+        ("owner-exits", owner_exits()),
+    ] {
         let config = class.config.with_stealing(1);
         all.push((format!("each-{name}"), Class { config, ..class }.text(true)));
     }

@@ -1,7 +1,7 @@
 //! Inputs of the line program `course` with the output it must give.
 
 use crate::sessions::busy_moves;
-use crate::{course_marks, Folder};
+use crate::{course_marks, owner_exits, Folder};
 use independent::machine::{Config, GO};
 use independent::random::Generator;
 use independent::worked::{self, Worked};
@@ -11,6 +11,21 @@ use std::io;
 /// The examples for users.
 const CLASS: &[u8] = include_bytes!("../../../../../examples/class.txt");
 const K5: &[u8] = include_bytes!("../../../../../examples/course_k5.txt");
+
+/// Random inputs from before exits by owners were refused: they were chosen along the states that
+/// such an exit led to, so their seeds do not give them any more.
+const KEPT: [(u64, &[u8]); 5] = [
+    (5, include_bytes!("../../../../vectors/course/random-05.in")),
+    (18, include_bytes!("../../../../vectors/course/random-18.in")),
+    (19, include_bytes!("../../../../vectors/course/random-19.in")),
+    (28, include_bytes!("../../../../vectors/course/random-28.in")),
+    (36, include_bytes!("../../../../vectors/course/random-36.in")),
+];
+
+fn random(seed: u64) -> Vec<u8> {
+    let kept = KEPT.iter().find(|(of, _)| *of == seed);
+    kept.map_or_else(|| random_course::input(seed, 100), |(_, input)| input.to_vec())
+}
 
 /// A session with the view after the start and after each move, then the chart.
 fn viewed(worked: &Worked) -> Vec<u8> {
@@ -265,6 +280,8 @@ fn fixed() -> Vec<(&'static str, Vec<u8>)> {
         ("each-own-queues-views", viewed(&worked::own_queues())),
         ("scripts", scripts()),
         ("refused-turns", refused_turns()),
+        ("owner-exits", owner_exits::course(0)),
+        ("each-owner-exits", owner_exits::course(1)),
         ("starts", starts()),
         ("no-commands", no_commands()),
         ("any-bytes", any_bytes()),
@@ -279,9 +296,7 @@ pub fn write_all(folder: &Folder) -> io::Result<()> {
     let mut all: Vec<(String, Vec<u8>)> = Vec::new();
     let named = fixed().into_iter().chain(course_marks::all()).chain(endings());
     all.extend(named.map(|(name, input)| (name.into(), input)));
-    for seed in 1..=36 {
-        all.push((format!("random-{seed:02}"), random_course::input(seed, 100)));
-    }
+    all.extend((1..=41).map(|seed| (format!("random-{seed:02}"), random(seed))));
     for (name, input) in all {
         folder.write(&format!("{name}.in"), &input)?;
         folder.write(&format!("{name}.out"), course::run(&input).as_bytes())?;

@@ -5,6 +5,7 @@ mod classes;
 mod course;
 mod course_marks;
 mod marks;
+mod owner_exits;
 mod pictures;
 mod sessions;
 mod states;

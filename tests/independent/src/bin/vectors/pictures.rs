@@ -193,8 +193,10 @@ pub fn write_all(folder: &Folder) -> io::Result<()> {
         "each-start-3-8-2-7",
         "each-look-2",
         "each-deep-3-7-2",
+        "terminated-owner",
+        "each-terminated-owner-waited-for",
     ];
-    for one in named.iter().chain(&each) {
+    for one in named.iter().chain(&each).chain(&states::old()) {
         let bytes = raw_bytes(&one.snapshot);
         assert_eq!(number(&bytes), 0);
         folder.write(&format!("{}.txt", one.name), with_damages(&bytes).as_bytes())?;

@@ -1,12 +1,18 @@
 //! Scripts for the line program with the output it must give.
 
-use crate::Folder;
-use independent::machine::{Config, State};
+use crate::{owner_exits, Folder};
+use independent::machine::{Config, Move, State};
 use independent::program;
 use independent::random::{is_stuck, Call, Driver, Generator, Rates};
 use independent::spelling;
 use independent::worked::{self, Worked};
 use std::io;
+
+/// A random session from before exits by owners were refused: it was chosen along the states that
+/// such an exit led to, so its seed does not give it any more.
+const KEPT_EACH_2: &[u8] = include_bytes!("../../../../vectors/sessions/each-2.in");
+
+const RATES: Rates = Rates { refused: 8, undo: 30, owner_exits: 0 };
 
 /// The session with the picture after the start and after each move, then `more`.
 fn shown(worked: &Worked, more: &[&str]) -> Vec<u8> {
@@ -18,8 +24,14 @@ fn shown(worked: &Worked, more: &[&str]) -> Vec<u8> {
     spelling::input(&lines)
 }
 
-fn random_session(config: Config, seed: u64, calls: usize, show_each: usize) -> Vec<u8> {
-    let mut driver = Driver::new(seed, Rates { refused: 8, undo: 30, owner_exits: 0 });
+fn random_session(
+    config: Config,
+    seed: u64,
+    rates: Rates,
+    calls: usize,
+    show_each: usize,
+) -> Vec<u8> {
+    let mut driver = Driver::new(seed, rates);
     let mut states = vec![State::start(config)];
     let mut lines = vec![spelling::start(config)];
     for call in 1..=calls {
@@ -47,23 +59,18 @@ fn random_session(config: Config, seed: u64, calls: usize, show_each: usize) -> 
     spelling::input(&lines)
 }
 
-/// 4,000 accepted moves in which the machine never gets stuck, from the first seed that has them.
-pub fn busy_moves(config: Config) -> Vec<[u8; 3]> {
-    let busy = |seed| {
-        let mut driver = Driver::new(seed, Rates::ACCEPTED);
-        let mut state = State::start(config);
-        let mut moves = Vec::new();
-        while moves.len() < 4_000 {
-            let made = driver.likely_move(&state);
-            state.try_move(made).expect("an accepted move");
-            moves.push(made);
-            if is_stuck(&state) {
-                return None;
-            }
-        }
-        Some(moves)
-    };
-    (0..).find_map(busy).expect("a busy session")
+/// 4,000 accepted moves in which the machine never gets stuck.
+pub fn busy_moves(config: Config) -> Vec<Move> {
+    let mut driver = Driver::new(4, Rates::ACCEPTED);
+    let mut state = State::start(config);
+    let mut moves = Vec::new();
+    while moves.len() < 4_000 {
+        let made = driver.likely_move(&state);
+        state.try_move(made).expect("an accepted move");
+        assert!(!is_stuck(&state));
+        moves.push(made);
+    }
+    moves
 }
 
 /// 4,000 accepted moves, refusals at the end, steps back and moves again.
@@ -176,7 +183,7 @@ fn refusals() -> Vec<u8> {
         "move 2 3 1",
         "move 1 3 2",
         "show",
-        // The owner exits and still owns; another thread runs and gets 6; the ended one gets 7
+        // The owner may not exit, gets 5 for goes, and unlocks; 4 there
         "move 1 5 0",
         "move 1 0 0",
         "move 1 0 0",
@@ -195,6 +202,18 @@ fn refusals() -> Vec<u8> {
         "back",
         "show",
     ])
+}
+
+/// Random sessions in which owners often try to exit, with either choice of ready queues.
+fn random_owners() -> Vec<(String, Vec<u8>)> {
+    let rates = Rates { owner_exits: 10, ..RATES };
+    let tables = [(2, 3, 1), (3, 5, 2), (4, 9, 3), (8, 32, 8)];
+    let all = (1..).zip(tables).flat_map(|(seed, (p, t, m))| {
+        let config = Config::new(p, t, m, t);
+        let input = |stealing| random_session(config.with_stealing(stealing), seed, rates, 200, 10);
+        [(format!("owner-exits-{seed}"), input(0)), (format!("each-owner-exits-{seed}"), input(1))]
+    });
+    all.collect()
 }
 
 /// Lines that are no command, between commands.
@@ -457,6 +476,9 @@ fn fixed() -> Vec<(&'static str, Vec<u8>)> {
             ]),
         ),
         ("refusals", refusals()),
+        ("owner-exits", owner_exits::session(0)),
+        ("each-owner-exits", owner_exits::session(1)),
+        ("owner-exits-most-moves", owner_exits::most_moves()),
         ("odd-lines", odd_lines()),
         ("fifth-numbers", fifth_numbers()),
         ("long-lines", long_lines()),
@@ -478,18 +500,23 @@ pub fn write_all(folder: &Folder) -> io::Result<()> {
     let mut generator = Generator::new(4);
     for seed in 1..=24 {
         let config = generator.config();
-        all.push((format!("random-{seed:02}"), random_session(config, seed, 300, 5)));
+        all.push((format!("random-{seed:02}"), random_session(config, seed, RATES, 300, 5)));
     }
     let few = [(3, 3, 1), (4, 4, 1), (4, 4, 2), (5, 6, 1)];
     for (seed, (p, t, m)) in (1..).zip(few) {
-        let input = random_session(Config::new(p, t, m, t), seed, 700, 10);
+        let input = random_session(Config::new(p, t, m, t), seed, RATES, 700, 10);
         all.push((format!("contention-{seed}"), input));
     }
     let each = [(1, 3, 1), (2, 5, 1), (3, 9, 2), (5, 12, 1), (8, 32, 2), (8, 24, 8)];
     for (seed, (p, t, m)) in (1..).zip(each) {
         let config = Config::new(p, t, m, t - t / 8).with_stealing(1);
-        all.push((format!("each-{seed}"), random_session(config, seed, 300, 10)));
+        let input = match seed {
+            2 => KEPT_EACH_2.to_vec(),
+            _ => random_session(config, seed, RATES, 300, 10),
+        };
+        all.push((format!("each-{seed}"), input));
     }
+    all.extend(random_owners());
     for (name, input) in all {
         folder.write(&format!("{name}.in"), &input)?;
         folder.write(&format!("{name}.out"), program::run(&input).as_bytes())?;

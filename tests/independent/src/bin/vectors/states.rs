@@ -1,9 +1,16 @@
 //! The named states that pictures and turns are given for.
 
+use independent::lines;
 use independent::machine::{Config, State};
+use independent::owners;
+use independent::picture;
 use independent::random::{Driver, Rates};
 use independent::record::Snapshot;
 use independent::worked::{self, Worked};
+
+/// Pictures of random sessions from before exits by owners were refused, in which one has exited.
+const KEPT_DEEP: &str = include_str!("../../../../vectors/pictures/deep-8-32-8-b.txt");
+const KEPT_EACH_DEEP: &str = include_str!("../../../../vectors/pictures/each-deep-8-32-8.txt");
 
 pub struct Named {
     pub name: &'static str,
@@ -36,6 +43,18 @@ fn deep_from(config: Config, seed: u64, least: u16, waiting: usize) -> Option<Sn
     }
 }
 
+/// The state of the picture in a file's first line.
+fn kept(text: &str) -> Snapshot {
+    let word = text.split_whitespace().nth(1).expect("a picture");
+    picture::read(&lines::bytes(word.as_bytes()).expect("digits")).value
+}
+
+/// With a terminated owner, and either choice of ready queues.
+pub fn old() -> Vec<Named> {
+    let named = |old: owners::Old| Named { name: old.name, snapshot: old.record().snapshot };
+    owners::old().into_iter().map(named).collect()
+}
+
 /// With a single ready queue.
 pub fn all() -> Vec<Named> {
     let start = |p, t, m, b| Worked::new(Config::new(p, t, m, b)).snapshot();
@@ -61,7 +80,7 @@ pub fn all() -> Vec<Named> {
         ("k8-l8", earlier(&k8, 1)),
         ("deep-3-7-2", deep(Config::new(3, 7, 2, 7), 11, 150, 2)),
         ("deep-8-32-8-a", deep(Config::new(8, 32, 8, 20), 1, 1_200, 7)),
-        ("deep-8-32-8-b", deep(Config::new(8, 32, 8, 32), 100, 3_000, 5)),
+        ("deep-8-32-8-b", kept(KEPT_DEEP)),
         ("deep-8-32-1", deep(Config::new(8, 32, 1, 32), 200, 300, 3)),
     ];
     named(list)
@@ -83,7 +102,7 @@ pub fn each() -> Vec<Named> {
         ("each-stolen", earlier(&steals, 10)),
         ("each-own", earlier(&own, 0)),
         ("each-deep-3-7-2", deep(of(3, 7, 2, 7), 11, 150, 2)),
-        ("each-deep-8-32-8", deep(of(8, 32, 8, 20), 1, 400, 5)),
+        ("each-deep-8-32-8", kept(KEPT_EACH_DEEP)),
     ])
 }
 

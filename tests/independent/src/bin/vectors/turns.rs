@@ -16,7 +16,7 @@ fn line(shown: &Snapshot, thread: u8) -> String {
 }
 
 pub fn write_all(folder: &Folder) -> io::Result<()> {
-    for one in states::all().into_iter().chain(states::each()) {
+    for one in states::all().into_iter().chain(states::each()).chain(states::old()) {
         let shown = &one.snapshot;
         let mut text = String::new();
         writeln!(text, "picture {}", hex(&raw_bytes(shown))).unwrap();
