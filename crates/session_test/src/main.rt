@@ -95,7 +95,7 @@ fn run(
 
 // Both journals have a byte more than is needed, and the script has room.
 fn main() {
-    let mut script = [0u8; 262144];
+    let mut script = [0u8; 393216];
     let n = io::read_full(STDIN_FILENO, &mut script);
     let mut journal = [0u8; 12001];
     let mut kept = [0u8; 12001];

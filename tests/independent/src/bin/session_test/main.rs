@@ -4,6 +4,7 @@
 mod chains;
 mod commands;
 mod journals;
+mod owner_exits;
 mod script;
 mod scripted;
 mod writer;
@@ -12,7 +13,7 @@ use std::path::Path;
 use std::{env, fs, io};
 
 /// The most bytes of a script that the program reads.
-const ROOM: usize = 262_144;
+const ROOM: usize = 393_216;
 
 fn main() -> io::Result<()> {
     let Some(folder) = env::args_os().nth(1) else {

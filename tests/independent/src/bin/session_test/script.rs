@@ -3,6 +3,7 @@
 use crate::chains;
 use crate::commands::{first, mutex, processor, thread, Fields, APPLIED, BORN, FIELDS, STEALING};
 use crate::journals;
+use crate::owner_exits;
 use crate::scripted;
 use crate::writer::Writer;
 use independent::journal::JOURNAL;
@@ -275,7 +276,7 @@ pub fn calls_at_most(s: &mut Script, p: u8, t: u8, m: u8) {
     }
 }
 
-/// 6: nobody owns, another does, the owner has yielded, runs again, has exited.
+/// 6: nobody owns, another does, the owner has yielded, runs again, has tried to exit.
 fn unlocks(s: &mut Script) {
     s.say("# 6");
     let begun = Worked::new(Config::new(1, 2, 2, 2));
@@ -283,8 +284,8 @@ fn unlocks(s: &mut Script) {
     let yielded = owning.clone().call(1, YIELD, 0).go(1, 5);
     let runs = yielded.clone().call(1, YIELD, 0).go(1, 5);
     let unlocked = runs.clone().call(1, UNLOCK, 1).go(1, 1);
-    let exited = owning.clone().call(1, EXIT, 0).go(1, 2);
-    for one in [begun, owning, yielded, runs, unlocked, exited, worked::k6(), worked::k7()] {
+    let tried = owning.clone().call(1, EXIT, 0).go(1, 2);
+    for one in [begun, owning, yielded, runs, unlocked, tried, worked::k6(), worked::k7()] {
         s.played(&one);
         s.say("keep");
         for p in 1..=one.config.processors {
@@ -566,6 +567,9 @@ fn random_sessions(s: &mut Script) {
     }
 }
 
+/// The move that the session of 4,000 once had there, an exit by an owner; it is tried and refused.
+const OWNER_EXIT: (usize, Move) = (621, [8, EXIT, 0]);
+
 /// 4,000 moves, the refused ones after them, edited journals, steps back from the end, other moves.
 fn longest(s: &mut Script) {
     s.say("# 4,000 moves");
@@ -573,6 +577,9 @@ fn longest(s: &mut Script) {
     s.say("noise 9");
     s.start(worked.config);
     for (count, &made) in (1..).zip(&worked.moves) {
+        if count == OWNER_EXIT.0 {
+            s.make(OWNER_EXIT.1);
+        }
         s.make(made);
         if count % 500 == 0 {
             s.all(&["p", "h"]);
@@ -661,5 +668,6 @@ pub fn whole() -> String {
     let w = &mut Writer::new(s);
     scripted::add(w);
     journals::add(w);
+    owner_exits::add(w);
     script.0
 }
