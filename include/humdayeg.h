@@ -36,7 +36,8 @@ enum {
     HUMDAYEG_BAD_FIELD = 12,    /* a field, register or zero-byte rule */
     HUMDAYEG_BAD_CHAIN = 13,    /* a chain meets a thread twice, a wrong one, or misses one */
     HUMDAYEG_BAD_HOLDER = 14,   /* current and transit fields against statuses 3 and 4 */
-    HUMDAYEG_BAD_SCRIPT = 19    /* scripts too short, over 6 calls, or an action outside 1 to 6 */
+    HUMDAYEG_BAD_SCRIPT = 19,   /* scripts too short, over 6 calls, or an action outside 1 to 6 */
+    HUMDAYEG_STILL_OWNER = 21   /* exit by a thread that owns a mutex */
 };
 
 /* The most moves that can stand, and the bytes of a move. */
@@ -73,7 +74,8 @@ enum {
  *
  * Answers, the first that is there:
  *     1        the table is outside its ranges; place is 0
- *     2 to 8   the moves are made in order, and this is the first that is refused, with its
+ *     2 to 8, 21
+ *              the moves are made in order, and this is the first that is refused, with its
  *              place. The 4,001st move is refused, by 8 where not by 2 or 3. One or two bytes
  *              left at the end are a move without its operand, refused by 3 once all moves
  *              before it are accepted. Nothing after a refused move is looked at.
@@ -114,8 +116,10 @@ uint8_t humdayeg_replay_with(uint8_t p, uint8_t t, uint8_t m, uint8_t b, uint8_t
  *     2        no such processor
  *     3        the call's operand does not fit; operands are looked at in the turn only
  *     8        4,000 turns were accepted already
- *     6, 7     unlock by a thread that is not the owner, create of one that is not new
- *     the first that is there. A refused turn changes nothing, so the call is next again.
+ *     6, 7, 21 unlock by a thread that is not the owner, create of one that is not new, exit by
+ *              one that owns a mutex
+ *     the first that is there. A refused turn changes nothing, so the call is next again. A thread
+ *     that has made all its calls and owns a mutex gets 21 at each turn, as it makes no other call.
  * pictures: pictures_len bytes, turns_len pictures of HUMDAYEG_PICTURE_BYTES(p, t, m) or more,
  *     one behind the other: the picture after each turn, accepted or not.
  *
@@ -147,7 +151,7 @@ uint8_t humdayeg_class_with(uint8_t p, uint8_t t, uint8_t m, uint8_t b, uint8_t 
  * Reads a picture and answers its number: 0 if the bytes are a picture, else the first that
  * is there of 11 (under 8 bytes), 12 (sizes), 11 (length not exactly the picture's), 12, 13
  * and 14. A picture is HUMDAYEG_PICTURE_BYTES(p, t, m) bytes, p, t and m being its first
- * three.
+ * three. One in which a terminated thread owns a mutex reads too, though no moves lead to it.
  */
 uint8_t humdayeg_read(const uint8_t *picture, size_t picture_len);
 

@@ -1,7 +1,8 @@
 /*
  * Uses the header and the archive as a C program would, and checks the answers that the scope
  * prints: the start picture, session S with K5, refusals with their places, buffer lengths,
- * reading, a ready queue for each processor, turns ahead and classes. Prints a line for each failed check and one with the counts.
+ * reading, a ready queue for each processor, exits by owners, turns ahead and classes. Prints a
+ * line for each failed check and one with the counts.
  */
 #include "checks.h"
 
@@ -118,7 +119,9 @@ static void refusals(void) {
                 {1, 7, 0, HUMDAYEG_BAD_OPERAND},  {1, 0, 1, HUMDAYEG_BAD_OPERAND},
                 {1, 1, 0, HUMDAYEG_BAD_OPERAND},  {1, 1, 2, HUMDAYEG_BAD_OPERAND},
                 {1, 6, 3, HUMDAYEG_BAD_OPERAND},  {1, 0, 0, HUMDAYEG_GO_AT_APP},
-                {1, 3, 1, HUMDAYEG_NOT_OWNER},    {2, 6, 1, HUMDAYEG_NOT_NEW}};
+                {1, 3, 1, HUMDAYEG_NOT_OWNER},    {2, 6, 1, HUMDAYEG_NOT_NEW},
+                {2, 5, 0, HUMDAYEG_STILL_OWNER},  {2, 5, 1, HUMDAYEG_BAD_OPERAND},
+                {3, 5, 0, HUMDAYEG_NO_PROCESSOR}};
     for (size_t i = 0; i < sizeof rows / sizeof rows[0]; i++) {
         struct outcome out = after_k5(rows[i].processor, rows[i].action, rows[i].operand);
         check(refused(&out, rows[i].number, next), "a refused move, its number and place");
@@ -229,6 +232,62 @@ static void queues(void) {
     check(refused(&out, HUMDAYEG_GO_AT_APP, 7), "a single queue needs no second look");
     out = replay_with(FOUR, 2, STEALS, sizeof STEALS);
     check(refused(&out, HUMDAYEG_BAD_TABLE, 0), "a fifth number over 1 comes first");
+}
+
+/* Thread 1 of the largest table locks mutex m, exits, unlocks, and exits at each line. */
+static void owner_of(uint8_t m, uint8_t stealing) {
+    const uint8_t moves[] = {1, 1, m, 1, 0, 0, 1, 3, m, 1, 0, 0, 1, 5, 0};
+    uint8_t exits[sizeof moves];
+    memcpy(exits, moves, sizeof moves);
+    /* After so many moves: at L1 and U1 by 4, at App by 21, after the unlock not at all. */
+    static const uint8_t wanted[] = {0, HUMDAYEG_CALL_AWAY, HUMDAYEG_STILL_OWNER,
+                                     HUMDAYEG_CALL_AWAY, 0};
+    for (uint32_t made = 0; made < sizeof wanted; made++) {
+        memcpy(exits, moves, 3 * made);
+        memcpy(exits + 3 * made, moves + 12, 3);
+        struct outcome out = replay_with(LARGEST, stealing, exits, 3 * (made + 1));
+        check(wanted[made] == 0 ? out.number == 0 : refused(&out, wanted[made], made + 1),
+              "an exit by an owner, its number and place");
+    }
+    const uint8_t another[] = {1, 1, m, 1, 0, 0, 2, 5, 0, 1, 5, 0, 9, 9, 9};
+    struct outcome out = replay_with(LARGEST, stealing, another, sizeof another);
+    check(refused(&out, HUMDAYEG_STILL_OWNER, 4), "another thread may exit");
+}
+
+/* Thread 1 owns mutex 2 and has locked and unlocked mutex 1 after that. */
+static void owner_of_another(void) {
+    static const struct table s = {1, 2, 2, 2};
+    static const uint8_t moves[] = {1, 1, 2, 1, 0, 0, 1, 1, 1, 1, 0, 0, 1, 3, 1, 1, 0, 0, 1, 5, 0};
+    struct outcome out = replay(s, moves, sizeof moves);
+    check(refused(&out, HUMDAYEG_STILL_OWNER, 7), "the last call was on another mutex");
+}
+
+/* Pictures from before 21: a terminated thread owns the mutex; in the second, threads 2 and 4
+   wait for it, and each processor has a ready queue. */
+static void terminated_owners(void) {
+    static const uint8_t one[] = {1, 2, 1, 0, 0, 5, 0, 0, 0, 2, 0, 0, 0, 0, 0, 0, 0, 0,
+                                  0, 0, 1, 0, 1, 0, 0, 0, 0, 0, 5, 0, 0, 0, 3, 1, 0, 0};
+    static const uint8_t waited_for[] = {
+        3, 5, 2, 0, 0, 18, 0, 1, 1, 0, 0, 0, 0, 0, 0, 0, 0, 0, 0, 0, 1, 0, 0, 0, 0, 1, 0,
+        0, 0, 0, 0, 0, 4, 3, 0, 2, 0, 0, 0, 0, 0, 0, 0, 0, 0, 0, 0, 0, 0, 0, 0, 0, 4, 2,
+        1, 0, 0, 0, 0, 0, 5, 0, 0, 0, 2, 2, 4, 0, 3, 3, 0, 0, 2, 2, 0, 0, 0, 0, 0, 0};
+    check(sizeof one == HUMDAYEG_PICTURE_BYTES(1, 2, 1), "the length of the first");
+    check(sizeof waited_for == HUMDAYEG_PICTURE_BYTES(3, 5, 2), "the length of the second");
+    check(humdayeg_read(one, sizeof one) == 0, "an owner that has exited reads");
+    check(humdayeg_read(waited_for, sizeof waited_for) == 0, "one that is waited for reads");
+    check(humdayeg_ahead(one, sizeof one, 1) == HUMDAYEG_NOT_WAITING, "it does not wait");
+    check(humdayeg_ahead(waited_for, sizeof waited_for, 2) == 1, "one turn ahead of thread 2");
+    check(humdayeg_ahead(waited_for, sizeof waited_for, 4) == 2, "two turns ahead of thread 4");
+    check(humdayeg_mark(one, sizeof one, one, sizeof one) == HUMDAYEG_FULL_MARK, "it is marked");
+}
+
+static void owner_exits(void) {
+    for (uint8_t m = 1; m <= 8; m++) {
+        owner_of(m, 0);
+        owner_of(m, 1);
+    }
+    owner_of_another();
+    terminated_owners();
 }
 
 /* Thread 1 locks mutex 1 twice and so waits for itself, as in K4. */
@@ -372,6 +431,28 @@ static void refused_turns(void) {
     }
 }
 
+/* Thread 1 locks and has no other call, so that its exit is refused at each turn; thread 2 exits
+   among its calls as an owner; thread 3 yields and exits. */
+static void owner_turns(void) {
+    static const uint8_t scripts[] = {1, 1, 1, 0, 0, 0, 0, 0, 0, 0, 0, 0, 0,
+                                      3, 2, 2, 5, 0, 3, 2, 0, 0, 0, 0, 0, 0,
+                                      1, 4, 0, 0, 0, 0, 0, 0, 0, 0, 0, 0, 0};
+    static const struct table s = {3, 3, 2, 3};
+    static const uint8_t turns[] = {1, 2, 3, 1, 2, 1, 3, 2, 1, 3, 4, 2, 1, 3};
+    static const uint8_t wanted[] = {0, 0, 0, 0, 0, 21, 0, 21, 21, 0, 2, 21, 21, 0};
+    static const uint8_t made[] = {1, 1, 1, 2, 2, 2, 3, 4, 0, 1, 0, 0, 2, 0, 0,
+                                   3, 0, 0, 3, 5, 0, 3, 0, 0};
+    check(class(s, scripts, sizeof scripts, turns, sizeof turns) == 0, "owners' turns are taken");
+    size_t stand = 0;
+    for (size_t i = 0; i < sizeof turns; i++) {
+        check(answers[i] == wanted[i], "the number of an owner's turn");
+        stand += wanted[i] == 0 ? 3 : 0;
+        check(shows(s, i, made, stand), "the picture after it");
+    }
+    check(class_of(s, 1, scripts, sizeof scripts, turns, sizeof turns) == 0, "a queue for each");
+    check(memcmp(answers, wanted, sizeof wanted) == 0, "gives the same numbers");
+}
+
 /* Thread 1 has no calls; processor 1 exits it and then finds nobody ready. */
 static void most_turns(void) {
     static const uint8_t none[HUMDAYEG_SCRIPT_BYTES], tail[] = {1, 2, 0, 1};
@@ -454,11 +535,13 @@ int main(void) {
     buffers();
     reading();
     queues();
+    owner_exits();
     turns();
     classes();
     classes_of_queues();
     yielding();
     refused_turns();
+    owner_turns();
     most_turns();
     scripts_refused();
     class_buffers();

@@ -2,7 +2,7 @@
 
 use differential::classes::Class;
 use differential::{class_with, expected};
-use independent::machine::{CREATE, LOCK, MOST_MOVES, UNLOCK, YIELD};
+use independent::machine::{CREATE, LOCK, MOST_MOVES, TRYLOCK, UNLOCK, YIELD};
 use independent::random::Generator;
 use independent::script::{script, SCRIPT};
 use std::collections::BTreeMap;
@@ -32,18 +32,36 @@ fn small() -> Class {
 
 #[test]
 fn random_classes() {
-    let mut met: BTreeMap<u8, usize> = BTreeMap::new();
+    let mut met: [BTreeMap<u8, usize>; 2] = Default::default();
     for seed in 0..4_000 {
         let mut generator = Generator::new(seed);
         let count = generator.below(260);
-        let taken = random(&mut generator, count).compare();
+        let class = random(&mut generator, count);
+        let taken = class.compare();
         assert_eq!(taken.number, 0);
         for number in taken.answers {
-            *met.entry(number).or_default() += 1;
+            *met[usize::from(class.stealing)].entry(number).or_default() += 1;
         }
     }
-    let met: Vec<u8> = met.into_keys().collect();
-    assert_eq!(met, [0, 2, 3, 6, 7]);
+    for met in met {
+        assert!(met.keys().eq(&[0, 2, 3, 6, 7, 21]), "{met:?}");
+        assert!(met[&21] > 1_000, "{met:?}");
+    }
+}
+
+/// Scripts of every number of locks and unlocks: a thread that keeps a mutex gets 21 once its script
+/// is spent.
+#[test]
+fn spent_scripts_of_owners() {
+    for (locks, unlocks) in (0..=6).flat_map(|n| (0..=n.min(6 - n)).map(move |less| (n, less))) {
+        let lock = |m: u8| [if m % 2 == 0 { TRYLOCK } else { LOCK }, m];
+        let unlock = |m: u8| [UNLOCK, m];
+        let calls: Vec<_> = (1..=locks).map(lock).chain((1..=unlocks).map(unlock)).collect();
+        let scripts = [script(&calls), script(&[]), script(&[[LOCK, 1]]), script(&[])].concat();
+        let turns = [&[1; 26][..], &[2, 3, 1].repeat(10)].concat();
+        let taken = Class { table: [3, 4, 6, 4], stealing: 0, scripts, turns }.compare();
+        assert_eq!(taken.answers[..26].contains(&21), locks != unlocks, "{calls:?}");
+    }
 }
 
 #[test]

@@ -4,6 +4,7 @@
 use differential::expected;
 use differential::read;
 use differential::sessions::pictures;
+use independent::owners;
 use independent::picture::length;
 use independent::random::Generator;
 
@@ -56,6 +57,25 @@ fn right_pictures() {
     for picture in pictures(0..200, 400, 10) {
         assert_eq!(compare(&picture), 0);
     }
+}
+
+/// Terminated owners: pictures from before 21, and random ones in which an owner field is set to
+/// each thread.
+#[test]
+fn terminated_owners() {
+    for old in owners::old() {
+        assert_eq!(compare(&old.picture), 0, "{}", old.name);
+    }
+    let mut terminated = 0;
+    for mut picture in pictures(8_000..8_060, 400, 4) {
+        let [_, mutexes, threads] = parts(&picture);
+        for thread in 1..=picture[1] {
+            picture[mutexes + 2] = thread;
+            assert_eq!(compare(&picture), 0);
+            terminated += usize::from(picture[threads + 4 * usize::from(thread - 1)] == 5);
+        }
+    }
+    assert!(terminated > 100, "{terminated}");
 }
 
 #[test]

@@ -3,8 +3,10 @@
 use differential::expected::{self, picture_of};
 use differential::sessions::{compare, compare_with, drive, patterned, tail, Session};
 use differential::{replay_with, Replayed, Table, MOST_PICTURE};
-use independent::machine::{Move, MOST_MOVES};
+use independent::machine::{Move, EXIT, MOST_MOVES};
+use independent::owners;
 use independent::random::{Driver, Generator, Rates};
+use std::collections::BTreeMap;
 
 /// The state after the first `made` moves is the one the library shows.
 fn shows(session: &Session, made: usize) {
@@ -103,10 +105,49 @@ fn middle_sessions_with_undos() {
 
 #[test]
 fn refused_moves() {
-    let often = Rates { refused: 2, undo: 0 };
+    let often = Rates { refused: 2, undo: 0, owner_exits: 10 };
+    let mut met: BTreeMap<(u8, u8), usize> = BTreeMap::new();
     for seed in 3_000..3_300 {
         let mut generator = Generator::new(!seed);
-        drive(seed, often, 150, |session, made| refuses(session, made, &tail(&mut generator)));
+        drive(seed, often, 150, |session, made| {
+            refuses(session, made, &tail(&mut generator));
+            let number = session.state().cause(made).expect("a refused move");
+            *met.entry((session.stealing, number)).or_default() += 1;
+        });
+    }
+    for number in [2, 3, 4, 5, 6, 7, 21] {
+        let times = [0, 1].map(|stealing| met.get(&(stealing, number)).copied().unwrap_or(0));
+        assert!(times.iter().all(|&times| times >= 100), "{number} met {times:?} times");
+    }
+}
+
+/// Owners by each line, tried along the session and its unlock; sessions from before 21, with their
+/// exit and all that came after it.
+#[test]
+fn exits_by_owners() {
+    let mut met = 0;
+    for owning in owners::owning(0).into_iter().chain(owners::owning(1)) {
+        let unlocked = owning.unlocks().pop().expect("an unlock");
+        let (table, stealing) = (expected::table(unlocked.config), unlocked.config.stealing);
+        for count in 0..=unlocked.moves.len() {
+            for p in 0..=unlocked.config.processors + 1 {
+                for operand in [0, 1] {
+                    let moves = [&unlocked.moves[..count], &[[p, EXIT, operand]]].concat().concat();
+                    compare(table, &moves, MOST_PICTURE);
+                    let answer = replay_with(table, stealing, &moves, &mut [0; MOST_PICTURE]);
+                    met += usize::from(answer.number == 21);
+                }
+            }
+        }
+    }
+    assert!(met >= 10, "{met}");
+    for old in owners::old() {
+        let (table, stealing) = (expected::table(old.session.config), old.session.config.stealing);
+        let moves = old.session.moves.concat();
+        compare(table, &moves, MOST_PICTURE);
+        let place = old.before_exit().moves.len() as u32 + 1;
+        let answer = replay_with(table, stealing, &moves, &mut [0; MOST_PICTURE]);
+        assert_eq!(answer, Replayed { number: 21, place }, "{}", old.name);
     }
 }
 

@@ -3,6 +3,7 @@
 use differential::expected::{self, picture_of};
 use differential::sessions::drive;
 use differential::{ahead, Ahead};
+use independent::owners;
 use independent::random::{Generator, Rates};
 
 fn compare(picture: &[u8], thread: u8) -> Ahead {
@@ -50,6 +51,16 @@ fn the_most_turns() {
     let picture = picture_of(session.state());
     for thread in 1..=32 {
         assert_eq!(compare(&picture, thread), Ahead::Waits(thread));
+    }
+}
+
+/// A terminated owner counts as an owner.
+#[test]
+fn terminated_owners() {
+    for old in owners::old() {
+        let waits = |thread| matches!(compare(&old.picture, thread), Ahead::Waits(1..));
+        let waiting = (0..=255).filter(|&thread| waits(thread)).count();
+        assert_eq!(waiting > 0, old.name.ends_with("waited-for"), "{}", old.name);
     }
 }
 

@@ -156,6 +156,7 @@ fn hash(bytes: &[u8]) -> u64 {
 
 #[test]
 fn classes() {
+    let mut owner_exits = 0;
     for path in files("classes", ".txt") {
         let text = text(&path);
         let (shown, fields): (Vec<_>, Vec<_>) =
@@ -170,12 +171,14 @@ fn classes() {
         let scripts = unhex(fields["scripts"]);
         assert_eq!(class_of(table, &scripts, &turns, &mut answers, &mut pictures), 0);
         assert_eq!(answers, unhex(fields["answers"]), "{}", path.display());
+        owner_exits += answers.iter().filter(|&&number| number == 21).count();
         for (got, wanted) in pictures.chunks(length).zip(&shown) {
             assert_eq!(format!("picture {}", hex(got)), *wanted, "{}", path.display());
         }
         assert!(shown.is_empty() || shown.len() == turns.len());
         assert_eq!(format!("{:016x}", hash(&pictures)), fields["hash"], "{}", path.display());
     }
+    assert!(owner_exits > 500, "{owner_exits}");
 }
 
 #[test]
@@ -289,7 +292,7 @@ impl ProgramSession {
 
 #[test]
 fn program_sessions() {
-    let mut compared = 0;
+    let (mut compared, mut owner_exits) = (0, 0);
     for path in files("sessions", ".in") {
         let mut input = fs::read(&path).unwrap();
         if input.last() == Some(&b'\n') {
@@ -307,8 +310,10 @@ fn program_sessions() {
                 let line = std::str::from_utf8(line).unwrap();
                 assert_eq!(session.answer(line), wanted, "{} {line}", path.display());
                 compared += 1;
+                owner_exits += usize::from(wanted == "21");
             }
         }
     }
     assert!(compared > 10_000, "{compared}");
+    assert!(owner_exits > 80, "{owner_exits}");
 }
