@@ -231,6 +231,26 @@ fn turns_are_turns_and_pictures() {
     }
 }
 
+/// An owner's exit, by a move and by turns of its spent script, changes nothing; random inputs have
+/// such exits too.
+#[test]
+fn owners_may_not_exit() {
+    let mut session = Session::after(&["start 2 3 1 2", "script 1 1 1", "turn 1", "turn 1"]);
+    for line in ["move 1 5 0", "turn 1", "turn 1"] {
+        session.keeps(line, "21\n");
+    }
+    let picture = session.ask("show");
+    assert_eq!(session.ask("turns 1 3 1"), [21, 2, 21].map(|n| format!("{n}\n{picture}")).concat());
+    session.keeps("move 1 5 1", "3\n");
+    for line in ["turn 2", "move 1 3 1", "turn 1", "turn 1"] {
+        assert_eq!(session.ask(line), "0\n");
+    }
+    assert!(session.ask("view").ends_with("terminated  1 2\n\n"));
+    let of = |seed| run(&random_course::input(seed, 200));
+    let refused = (0..60).map(|seed| of(seed).lines().filter(|&line| line == "21").count());
+    assert!(refused.sum::<usize>() > 100);
+}
+
 /// Scripts are empty after an accepted start, and kept after a refused one.
 #[test]
 fn starts_and_scripts() {

@@ -90,50 +90,65 @@ pub fn most_moves() -> Vec<u8> {
     spelling::input(&lines)
 }
 
-/// Owners that exit: spent scripts, alone and while others go on and wait; a scripted exit; pictures
-/// from before it was refused.
+/// Scripts that are spent: 21 while the others go on and wait for the mutex. Unlocked by a move, the
+/// first owner exits; the one that waited for its mutex keeps another and may not.
+const SPENT: [&str; 15] = [
+    "script 1 1 1",
+    "script 2 1 2 1 1 3 1",
+    "script 3 4 0",
+    "turns 1 1 1 1 2 2 1 3 2 2 2 2 1 3 2 2 2 3 3 3 3 3 3 1 1 1",
+    "view",
+    "turn 1",
+    "turn 2",
+    "show",
+    "chart",
+    "move 1 3 1",
+    "turns 1 1 1 1 1 1 1 1 1 1",
+    "view",
+    "chart",
+    "back",
+    "turn 1",
+];
+
+/// A longer script is a way out.
+const LONGER: [&str; 7] = [
+    "script 1 1 1 1 2",
+    "turns 1 1 1 1 1 1 2 2",
+    "script 1 1 1 1 2 3 2",
+    "turns 1 1 1 1",
+    "script 1 1 1 1 2 3 2 3 1",
+    "turns 1 1 1 1",
+    "chart",
+];
+
+/// An exit among the calls, with a wrong operand, and after the unlock.
+const INSIDE: [&str; 7] = [
+    "script 1 2 1 5 0 3 1",
+    "turns 1 1 1 1",
+    "script 1 2 1 5 1",
+    "turns 1 1",
+    "script 1 2 1 3 1 5 0",
+    "turns 1 1 1 1",
+    "view",
+];
+
+/// Owners that exit, by scripts; marks with pictures from before that was refused.
 pub fn course(stealing: u8) -> Vec<u8> {
-    let mut lines = vec![spelling::start(Config::new(3, 4, 2, 4).with_stealing(stealing))];
-    let rest = [
-        "script 1 1 1",
-        "script 2 1 2 1 1 3 1",
-        "script 3 4 0",
-        "turns 1 1 1 1 2 2 1 3 2 2 2 2 1 3 2 2 2 3 3 3 3 3 3 1 1 1",
-        "view",
-        "turn 1",
-        "turn 2",
-        "show",
-        "chart",
-        // Unlocked by a move, it exits; the one that waited for it owns now and may not.
-        "move 1 3 1",
-        "turns 1 1 1 1 1 1 1 1 1 1",
-        "view",
-        "chart",
-        "back",
-        "turn 1",
-        // A longer script is a way out, and so is a step back.
-        "start 2 2 2 2",
-        "script 1 1 1 1 2",
-        "turns 1 1 1 1 1 1 2 2",
-        "script 1 1 1 1 2 3 2",
-        "turns 1 1 1 1",
-        "script 1 1 1 1 2 3 2 3 1",
-        "turns 1 1 1 1",
-        "chart",
-        // An exit among the calls.
-        "start 1 1 1 1",
-        "script 1 2 1 5 0 3 1",
-        "turns 1 1 1 1",
-        "script 1 2 1 3 1 5 0",
-        "turns 1 1 1 1",
-        "script 1 2 1 5 1",
-        "view",
+    let mut lines = Vec::new();
+    let parts = [
+        (Config::new(3, 4, 2, 4), &SPENT[..]),
+        (Config::new(2, 2, 2, 2), &LONGER),
+        (Config::new(1, 1, 1, 1), &INSIDE),
     ];
-    lines.extend(rest.map(String::from));
+    for (config, rest) in parts {
+        lines.push(spelling::start(config.with_stealing(stealing)));
+        lines.extend(rest.iter().map(|line| line.to_string()));
+    }
     for old in owners::old() {
+        let before = old.before_exit().picture();
         lines.push(spelling::mark_of(&old.picture, &old.picture));
-        lines.push(spelling::mark_of(&old.picture, &old.before_exit().picture()));
-        lines.push(spelling::mark_of(&old.before_exit().picture(), &old.picture));
+        lines.push(spelling::mark_of(&old.picture, &before));
+        lines.push(spelling::mark_of(&before, &old.picture));
     }
     spelling::input(&lines)
 }
