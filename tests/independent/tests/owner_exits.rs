@@ -66,7 +66,7 @@ fn however_it_came_to_own() {
     assert!(lines.contains(&2) && lines.iter().any(|&count| count > 2));
 }
 
-/// The mutex is the thread's from the line that says so; before that line it may not exit by 4.
+/// At every state of these sessions, each processor: 21 where its thread is at App and the owner.
 #[test]
 fn from_when_it_owns() {
     for owning in owners::owning(0) {
