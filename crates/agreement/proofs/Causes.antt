@@ -25,7 +25,7 @@ use Rattle.reference.specs.Break.{is-empty, line-breaks, step-breaks}
 use Rattle.reference.specs.Picture.{Entry, thread-entry}
 use Rattle.reference.specs.Safe.{In}
 use Rattle.reference.proofs.Tests.{range-true}
-use Rattle.reference.proofs.Each.{each-agree}
+use Rattle.reference.proofs.Each.{each-agree, each-within}
 use Rattle.reference.proofs.Same.{same-line-exact}
 use Rattle.reference.proofs.Legal.{legal}
 use Rattle.association.proofs.Spots.{Spot, AtSpot, entry-for, spot-entry, spot-of}
@@ -75,7 +75,7 @@ module _ (s : State) (h : Fits s) where
   -- the causes by the action's number: on the record, and in the state
   abbrev Same : ℕ → ℕ → ℕ → Action → Type 0
   Same p o n a =
-      first-cause (facts-of (in-range 1 (s .P) p) (eqb n 0) (sizes-of (encode s)) (move-view (encode s) p n o) (owning-of (encode s) p n) (thread-of (encode s) o .status) n o) ≡
+      first-cause (facts-of (in-range 1 (s .P) p) (eqb n 0) (sizes-of (encode s)) (move-view (encode s) p n o) (owning-of (encode s) p) (thread-of (encode s) o .status) n o) ≡
       first-cause (record {
         there = in-range 1 (s .P) p;
         fits = leb n 6 && operand-fits s a o;
@@ -84,15 +84,17 @@ module _ (s : State) (h : Fits s) where
         at-app = at-app s p;
         unlocks = is-unlock a;
         owner = eqb (mutex-at s o .owner) (processor-at s p .current);
-        exits = is-exit a;
-        owning = not (owns-none s (processor-at s p .current));
         creates = is-create a;
         is-new = same-life (life-at s o) new;
+        exits = is-exit a;
+        owning = not (owns-none s (processor-at s p .current));
       })
 
   -- a thread owns no mutex of the record where it owns none of the state
   owns-shows : (k : ℕ) → code-owns-none (encode s .mutexes) (s .M) k ≡ owns-none s k
-  owns-shows k = each-agree _ _ 1 (s .M) (λ m l. ap (λ (x : declared-mutex.Mutex). not (eqb (x .owner) k)) (read-mutex s h m))
+  owns-shows k =
+      each-agree _ _ 1 8 (λ m l. ap (λ (x : declared-mutex.Mutex). ltb (s .M) m || not (eqb (x .owner) k)) (read-mutex s h m)) ∙
+      each-within (λ m. not (eqb (mutex-at s m .owner) k)) (s .M) 8 (h .m-most)
 
   same : (p o n : ℕ) → n ≤ 6 → Same p o n (action-of n)
   unfolding encode

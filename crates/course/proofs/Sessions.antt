@@ -353,7 +353,7 @@ first-of-cause f =
     (inl (omega arith))
     (first (f .unlocks && not (f .owner)) 6 _
     (inl (omega arith))
-    (first (f .exits && f .owning) still-owner _ (inr refl) (first (f .creates && not (f .is-new)) 7 0 (inl (omega arith)) (inl (omega arith)))))))))
+    (first (f .creates && not (f .is-new)) 7 _ (inl (omega arith)) (first (f .exits && f .owning) still-owner 0 (inr refl) (inl (omega arith)))))))))
 
 causes : (s : State) (a : step-of.Move) → OfCause (cause s a)
 unfolding cause

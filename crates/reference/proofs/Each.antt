@@ -1,11 +1,13 @@
--- Laws of `each`: one more at the end, and what it says of each number.
+-- Laws of `each`: one more at the end, what it says of each number, and a test that goes less far.
 -- Assumes nothing.
 use Prim.Native.Nat.{ℕ, zero, suc, _+_, _≤_, _<_}
 use mathlib.Core.Path.{_≡_, refl, sym, ap, _∙_}
-use mathlib.Core.Bool.{Bool, true, false, _&&_, and-assoc}
+use mathlib.Core.Bool.{Bool, true, false, _&&_, _||_, and-assoc}
 use native.Mathlib.Decide.{decLe}
 use native.Mathlib.Omega.{arith}
 use native.Mathlib.Numerals.{add-one}
+use lib.Dec.{ltb}
+use borrow.Author.Tests.{le-ltb, lt-ltb}
 use Rattle.reference.proofs.Tests.{both, both-left, both-right}
 use Rattle.reference.specs.Lists.{each}
 
@@ -52,3 +54,22 @@ pub each-agree : (f g : ℕ → Bool) (lo n : ℕ) → ((k : ℕ) → lo ≤ k �
 unfolding each
 each-agree f g lo zero h = refl
 each-agree f g lo (suc n) h = rw (h lo (omega arith), each-agree f g (suc lo) n (λ k l. h k (omega arith)))
+
+-- a test of the numbers 1 to m, asked of 1 to n
+pub each-within : (test : ℕ → Bool) (m n : ℕ) → m ≤ n → each (λ i. ltb m i || test i) 1 n ≡ each test 1 m
+each-within test m n h =
+    same-truth _ _
+    (λ e. each-all test 1 m (λ k l g. within k (each-at (λ i. ltb m i || test i) 1 n e k l (omega arith)) (omega arith)))
+    (λ e. each-all (λ i. ltb m i || test i) 1 n (λ k l g. past k l e (decLe k m)))
+  where
+    same-truth : (a b : Bool) → (a ≡ true → b ≡ true) → (b ≡ true → a ≡ true) → a ≡ b
+    same-truth true b f g = sym (f refl)
+    same-truth false true f g = g refl
+    same-truth false false f g = refl
+
+    within : (k : ℕ) → ltb m k || test k ≡ true → k ≤ m → test k ≡ true
+    within k e l = rw (le-ltb m k l) at e
+
+    past : (k : ℕ) → 1 ≤ k → each test 1 m ≡ true → Dec (k ≤ m) → ltb m k || test k ≡ true
+    past k l e (yes x) = rw (le-ltb m k x) (each-at test 1 m e k l (omega arith))
+    past k l e (no x) = rw (lt-ltb m k (omega arith))

@@ -8,7 +8,7 @@ use lib.Dec.{leb}
 use borrow.Author.Tests.{leb-true, leb-false, eqb-true, not-false}
 use Rattle.reference.specs.State.{State, App, new, processor-at, mutex-at, life-at}
 use Rattle.reference.specs.Step.{Action, Move, action-of, next}
-use Rattle.reference.specs.Cause.{operand-fits, is-go, is-unlock, is-exit, is-create, at-app, owns-none, Facts, facts, cause, accepted}
+use Rattle.reference.specs.Cause.{operand-fits, is-go, is-unlock, is-create, is-exit, at-app, owns-none, Facts, facts, cause, accepted}
 use Rattle.reference.specs.Safe.{In}
 use Rattle.reference.proofs.Tests.{both-left, both-right, _and_, range-true, passed}
 use Rattle.reference.proofs.Same.{same-line-exact, same-life-exact}
@@ -18,8 +18,8 @@ pub record Here (s : State) (p : ℕ) (a : Action) (o : ℕ) : Type 0 where
   pub call : is-go a ≡ false → processor-at s p .position ≡ App
   pub away : is-go a ≡ true → at-app s p ≡ false
   pub owner : is-unlock a ≡ true → mutex-at s o .owner ≡ processor-at s p .current
-  pub owns-none : is-exit a ≡ true → owns-none s (processor-at s p .current) ≡ true
   pub unborn : is-create a ≡ true → life-at s o ≡ new
+  pub owns-none : is-exit a ≡ true → owns-none s (processor-at s p .current) ≡ true
 
 pub record Legal (s : State) (a : Move) : Type 0 where
   pub processor : In (s .P) (a .processor)
@@ -43,8 +43,8 @@ legal s a e =
     let k = passed (not (f .goes) && not (f .at-app)) _ _ (j .1) in
     let l = passed (f .goes && f .at-app) _ _ (k .1) in
     let m = passed (f .unlocks && not (f .owner)) _ _ (l .1) in
-    let n = passed (f .exits && f .owning) _ _ (m .1) in
-    let q = passed (f .creates && not (f .is-new)) _ _ (n .1) in
+    let n = passed (f .creates && not (f .is-new)) _ _ (m .1) in
+    let q = passed (f .exits && f .owning) _ _ (n .1) in
     let fits = not-false _ (i .0) in
     record {
       processor = range-true 1 (s .P) (a .processor) (not-false _ (h .0));
@@ -55,8 +55,8 @@ legal s a e =
         call = λ x. same-line-exact .only (processor-at s (a .processor) .position) App (not-false _ (other (not (f .goes)) _ (k .0) (ap not x)));
         away = other (f .goes) _ (l .0);
         owner = λ x. eqb-true (mutex-at s (a .operand) .owner) (processor-at s (a .processor) .current) (not-false _ (other (f .unlocks) _ (m .0) x));
-        owns-none = λ x. not-false _ (other (f .exits) _ (n .0) x);
-        unborn = λ x. same-life-exact .only (life-at s (a .operand)) new (not-false _ (other (f .creates) _ (q .0) x));
+        unborn = λ x. same-life-exact .only (life-at s (a .operand)) new (not-false _ (other (f .creates) _ (n .0) x));
+        owns-none = λ x. not-false _ (other (f .exits) _ (q .0) x);
       };
     }
 

@@ -1,4 +1,4 @@
--- Why a move is refused: the first of 2, 3, 8, 4 or 5, 6 or 21 or 7 that is there, else 0. Code and specs take the order from here (`first-cause`).
+-- Why a move is refused: the first of 2, 3, 8, 4 or 5, 6 or 7 or 21 that is there, else 0. Code and specs take the order from here (`first-cause`).
 -- Assumes nothing.
 use Prim.Native.Nat.{ℕ}
 use mathlib.Core.Bool.{Bool, true, false, _&&_, not}
@@ -37,15 +37,6 @@ is-unlock yield = false
 is-unlock exit = false
 is-unlock create = false
 
-abbrev pub is-exit : Action → Bool
-is-exit go = false
-is-exit lock = false
-is-exit trylock = false
-is-exit unlock = false
-is-exit yield = false
-is-exit exit = true
-is-exit create = false
-
 abbrev pub is-create : Action → Bool
 is-create go = false
 is-create lock = false
@@ -54,6 +45,15 @@ is-create unlock = false
 is-create yield = false
 is-create exit = false
 is-create create = true
+
+abbrev pub is-exit : Action → Bool
+is-exit go = false
+is-exit lock = false
+is-exit trylock = false
+is-exit unlock = false
+is-exit yield = false
+is-exit exit = true
+is-exit create = false
 
 abbrev pub at-app : State → ℕ → Bool
 at-app s p = same-line (processor-at s p .position) App
@@ -74,12 +74,12 @@ pub record Facts : Type 0 where
   -- it is an unlock, and the current thread is the owner of the mutex that the operand names
   pub unlocks : Bool
   pub owner : Bool
-  -- it is an exit, and the current thread owns some mutex
-  pub exits : Bool
-  pub owning : Bool
   -- it is a create, and the thread that the operand names is new
   pub creates : Bool
   pub is-new : Bool
+  -- it is an exit, and the current thread owns some mutex
+  pub exits : Bool
+  pub owning : Bool
 
 -- the order of the causes
 abbrev pub first-cause : Facts → ℕ
@@ -90,8 +90,8 @@ first-cause f =
     (refuse (not (f .goes) && not (f .at-app)) call-away
     (refuse (f .goes && f .at-app) go-at-app
     (refuse (f .unlocks && not (f .owner)) not-owner
-    (refuse (f .exits && f .owning) still-owner
-    (refuse (f .creates && not (f .is-new)) not-new 0)))))))
+    (refuse (f .creates && not (f .is-new)) not-new
+    (refuse (f .exits && f .owning) still-owner 0)))))))
 
 abbrev pub facts : State → Move → Facts
 facts s a =
@@ -103,10 +103,10 @@ facts s a =
       at-app = at-app s (a .processor);
       unlocks = is-unlock (action-of (a .action));
       owner = eqb (mutex-at s (a .operand) .owner) (processor-at s (a .processor) .current);
-      exits = is-exit (action-of (a .action));
-      owning = not (owns-none s (processor-at s (a .processor) .current));
       creates = is-create (action-of (a .action));
       is-new = same-life (life-at s (a .operand)) new;
+      exits = is-exit (action-of (a .action));
+      owning = not (owns-none s (processor-at s (a .processor) .current));
     }
 
 unfoldable pub cause : State → Move → ℕ

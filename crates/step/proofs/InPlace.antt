@@ -1,8 +1,9 @@
 -- Moves in place: what a move sees and makes of the parts of a record is what it sees and makes of the record, one more move, and the end.
 -- Assumes nothing.
 use Prim.Native.Nat.{ℕ, zero, suc, _+_, _-_, _*_, _/_, _<_}
-use mathlib.Core.Bool.{Bool, true, false, not, _&&_, true≢false}
+use mathlib.Core.Bool.{Bool, true, false, not, _&&_, _||_, or-true, true≢false}
 use mathlib.Core.List.{List, [], _∷_}
+use mathlib.Core.Logic.{_⊎_, inl, inr}
 use mathlib.Core.Path.{_≡_, refl, sym, ap, _∙_}
 use native.Mathlib.Omega.{arith}
 use lib.Dec.{eqb, leb}
@@ -11,6 +12,7 @@ use lib.Seq.{set-getD}
 use borrow.Author.Tests.{eq-eqb, ne-eqb, le-leb, lt-leb, leb-false, eqb-true, eqb-false}
 use Rattle.reference.specs.Lists.{choose, in-range}
 use Rattle.reference.specs.Refusal.{refuse}
+use Rattle.reference.specs.Cause.{Facts}
 use Rattle.state.specs.declared.Thread.{Thread}
 use Rattle.state.specs.declared.Processor.{Processor}
 use Rattle.state.specs.declared.Mutex.{Mutex}
@@ -24,7 +26,7 @@ use Rattle.step.specs.declared.Decision.{Decision}
 use Rattle.step.specs.declared.Moved.{Moved}
 use Rattle.step.specs.declared.Run.{Run}
 use Rattle.step.specs.declared.Sizes.{Sizes}
-use Rattle.step.specs.model.Moves.{target-of, index-of, view-of, seen-of, carried, carried-firsts, carried-threads, act-effect, up-to, gathered-of, owns-none, owning-of, move-view, cause-of, cause-seen, step-breaks-of, refusal-of, stepped-of, moved-of, moved-at, sizes-of, act-outcome, refusal-seen, decision, ran, run-from, run-of, noted, noted-at, counted-from, counted-of}
+use Rattle.step.specs.model.Moves.{target-of, index-of, view-of, seen-of, carried, carried-firsts, carried-threads, act-effect, up-to, gathered-of, owns-none, facts-of, move-view, cause-of, cause-seen, tried, cleared, step-breaks-of, refusal-of, stepped-of, moved-of, moved-at, sizes-of, act-outcome, refusal-seen, decision, ran, run-from, run-of, noted, noted-at, counted-from, counted-of}
 use Rattle.step.proofs.Keeps.{keeps}
 use Rattle.step.proofs.Put.{carried-first, carried-bytes, length-firsts, length-threads}
 
@@ -58,15 +60,117 @@ tried-is s p (suc a) o z = rw (ne-eqb (suc a) 0 (λ e. omega arith)) (by _ (leb 
     by broken true e = rw (le-leb 1 (suc a) (omega arith), e)
     by broken false e = absurd (no-action s p (suc a) o (leb-false (suc a) 6 e) z)
 
--- the refusal of its decision
-decided : (s : State) (p a o : ℕ) → refusal-seen (sizes-of s) (move-view s p a o) (owning-of s p a) (thread-of s o .status) a o ≡ refusal-of s p a o
-unfolding refusal-seen refusal-of
-decided s p a o = by (eqb (cause-of s p a o) 0) refl
+-- the causes before 21, by their tests, and what comes after them
+abbrev before-21 : Bool → Bool → Bool → Bool → Bool → Bool → Bool → ℕ → ℕ
+before-21 q r t u w x y last = refuse q 2 (refuse r 3 (refuse t 8 (refuse u 4 (refuse w 5 (refuse x 6 (refuse y 7 last))))))
+
+module _ (z : Sizes) (v : View) (status a o : ℕ) where
+  abbrev facts : Facts
+  facts = facts-of (in-range 1 (z .p) (v .number)) (eqb a 0) z v true status a o
+
+  -- 21 is the cause of an exit only
+  exit-only : cause-seen z v true status a o ≡ 21 → a ≡ 5
+  unfolding cause-seen
+  exit-only e =
+      by (not (facts .there)) (not (facts .fits)) (facts .full) (not (facts .goes) && not (facts .at-app)) (facts .goes && facts .at-app) (facts .unlocks && not (facts .owner))
+      (facts .creates && not (facts .is-new)) (eqb a 5) refl e
+    where
+      by : (q r t u w x y b : Bool) → eqb a 5 ≡ b → before-21 q r t u w x y (refuse (b && true) 21 0) ≡ 21 → a ≡ 5
+      by true r t u w x y b d n = absurd (omega arith)
+      by false true t u w x y b d n = absurd (omega arith)
+      by false false true u w x y b d n = absurd (omega arith)
+      by false false false true w x y b d n = absurd (omega arith)
+      by false false false false true x y b d n = absurd (omega arith)
+      by false false false false false true y b d n = absurd (omega arith)
+      by false false false false false false true b d n = absurd (omega arith)
+      by false false false false false false false true d n = eqb-true a 5 d
+      by false false false false false false false false d n = absurd (omega arith)
+
+  -- the cause of a thread that may be free of mutexes, by that of one that owns some
+  cause-cleared : (free : Bool) → cleared free (cause-seen z v true status a o) ≡ cause-seen z v (not free) status a o
+  unfolding cause-seen
+  cause-cleared free =
+      by (not (facts .there)) (not (facts .fits)) (facts .full) (not (facts .goes) && not (facts .at-app)) (facts .goes && facts .at-app) (facts .unlocks && not (facts .owner))
+      (facts .creates && not (facts .is-new)) (eqb a 5) free
+    where
+      by : (q r t u w x y b h : Bool) → cleared h (before-21 q r t u w x y (refuse (b && true) 21 0)) ≡ before-21 q r t u w x y (refuse (b && not h) 21 0)
+      by true r t u w x y b h = refl
+      by false true t u w x y b h = refl
+      by false false true u w x y b h = refl
+      by false false false true w x y b h = refl
+      by false false false false true x y b h = refl
+      by false false false false false true y b h = refl
+      by false false false false false false true b h = refl
+      by false false false false false false false true true = refl
+      by false false false false false false false true false = refl
+      by false false false false false false false false h = refl
+
+-- an exit breaks no rule
+exit-unbroken : (t a o : ℕ) (v : View) → a ≡ 5 → act-outcome t a o v .broken ≡ false
+unfolding act-outcome
+exit-unbroken t a o v e = ap (λ (k : ℕ). act-outcome t k o v .broken) e
+
+exit-breaks : (s : State) (p a : ℕ) → a ≡ 5 → step-breaks-of s p a ≡ false
+unfolding step-breaks-of
+exit-breaks s p a e = ap (step-breaks-of s p) e
+
+-- 15 and 0 are not 21
+uncleared : (free b : Bool) → _≡_ {A = ℕ} (cleared free (choose b 15 0)) (choose b 15 0)
+uncleared free true = refl
+uncleared free false = refl
+
+or-zero : (c : ℕ) → choose (eqb c 0) 0 c ≡ c
+or-zero zero = refl
+or-zero (suc c) = rw (ne-eqb (suc c) 0 (omega arith))
+
+-- what is cleared to 0 was tried
+cleared-tried : (free : Bool) (n : ℕ) → cleared free n ≡ 0 → tried n ≡ true
+cleared-tried free n z = by (eqb n 21) refl z
   where
-    by : (b : Bool) → eqb (cause-of s p a o) 0 ≡ b →
-        choose b (choose (act-outcome (s .t) a o (move-view s p a o) .broken) 15 0) (cause-of s p a o) ≡ choose b (choose (step-breaks-of s p a) 15 0) (cause-of s p a o)
-    by true e = tried-is s p a o (eqb-true (cause-of s p a o) 0 e)
-    by false e = refl
+    by : (b : Bool) → eqb n 21 ≡ b → choose (b && free) 0 n ≡ 0 → eqb n 0 || b ≡ true
+    by true e h = or-true (eqb n 0)
+    by false e h = rw (eq-eqb n 0 h)
+
+-- the question whether the thread is free of mutexes, and what comes of it
+pub asked : (own : Bool) (n r : ℕ) (free : Bool) → free ≡ eqb n 21 && own → ((free ≡ true) × (r ≡ 0)) ⊎ ((free ≡ false) × (r ≡ n)) → r ≡ cleared own n
+asked own n r free e (inl h) = h .1 ∙ sym (ap (λ (b : Bool). choose b 0 n) (sym e ∙ h .0))
+asked own n r free e (inr h) = h .1 ∙ sym (ap (λ (b : Bool). choose b 0 n) (sym e ∙ h .0))
+
+-- the refusal of its decision, once it is asked whether the thread is free of mutexes
+decided : (s : State) (p a o : ℕ) →
+    cleared (owns-none (s .mutexes) (s .m) (processor-of s p .current)) (refusal-seen (sizes-of s) (move-view s p a o) (thread-of s o .status) a o) ≡ refusal-of s p a o
+unfolding refusal-seen refusal-of
+decided s p a o = by (eqb n 0) (eqb n 21) refl refl
+  where
+    free : Bool
+    free = owns-none (s .mutexes) (s .m) (processor-of s p .current)
+
+    n : ℕ
+    n = cause-seen (sizes-of s) (move-view s p a o) true (thread-of s o .status) a o
+
+    broken : Bool
+    broken = act-outcome (s .t) a o (move-view s p a o) .broken
+
+    c : ℕ
+    c = cause-of s p a o
+
+    cause-is : cleared free n ≡ c
+    cause-is = cause-cleared (sizes-of s) (move-view s p a o) (thread-of s o .status) a o free
+
+    by : (none owner : Bool) → eqb n 0 ≡ none → eqb n 21 ≡ owner →
+        cleared free (choose (none || owner) (choose broken 15 n) n) ≡ choose (eqb c 0) (choose (step-breaks-of s p a) 15 0) c
+    by true owner e f =
+        let z : n ≡ 0 = eqb-true n 0 e in
+        let w : c ≡ 0 = sym cause-is ∙ ap (cleared free) z in
+        ap (λ (k : ℕ). cleared free (choose broken 15 k)) z ∙ ap (cleared free) (tried-is s p a o w) ∙ uncleared free (step-breaks-of s p a) ∙
+        ap (λ (k : ℕ). choose (eqb k 0) (choose (step-breaks-of s p a) 15 0) k) (sym w)
+    by false true e f =
+        let five : a ≡ 5 = exit-only (sizes-of s) (move-view s p a o) (thread-of s o .status) a o (eqb-true n 21 f) in
+        ap (λ (b : Bool). cleared free (choose b 15 n)) (exit-unbroken (s .t) a o (move-view s p a o) five) ∙ cause-is ∙ sym (or-zero c) ∙
+        ap (λ (b : Bool). choose (eqb c 0) (choose b 15 0) c) (sym (exit-breaks s p a five))
+    by false false e f =
+        let w : c ≡ n = sym cause-is ∙ ap (λ (b : Bool). choose (b && free) 0 n) f in
+        cause-is ∙ sym (ap (λ (b : Bool). choose b (choose (step-breaks-of s p a) 15 0) c) (ap (λ (k : ℕ). eqb k 0) w ∙ e))
 
 -- ---- what it makes
 
@@ -268,8 +372,6 @@ pub record Reading (start : State) (j first : List ℕ) : Type 0 where
   pub view-is : view ≡ seen-of firsts bytes (state .stealing) (state .p) (getD j (3 * made) 0) processor target mutex
   pub sizes : Sizes
   pub sizes-is : sizes ≡ sizes-of state
-  pub owning : Bool
-  pub owning-is : owning ≡ eqb (getD j (3 * made + 1) 0) 5 && not (owns-none mutexes (state .m) (processor .current))
 
 module _ {start : State} {j first : List ℕ} (here : Reading start j first) where
   abbrev i : ℕ
@@ -325,9 +427,6 @@ module _ {start : State} {j first : List ℕ} (here : Reading start j first) whe
   sees =
       here .view-is ∙ seen-view whole p m b r (here .mutex) (g .bytes) (here .processor-is) (here .mutex-is) ∙ ap (view-of whole p) target-is
 
-  owns : here .owning ≡ owning-of whole p a
-  owns = here .owning-is ∙ ap (λ (q : Processor). eqb a 5 && not (owns-none xs (s .m) (q .current))) (here .processor-is)
-
   -- refused by k, whatever the cause
   stopped : (k : ℕ) → k ≡ refusal-of whole p a o → (k ≡ 0 → ⊥) → (ran k i whole ≡ run-of start j) × (calls ≡ counted-of start j first)
   stopped k e z = (
@@ -335,27 +434,33 @@ module _ {start : State} {j first : List ℕ} (here : Reading start j first) whe
     sym (counted-stop j (length j / 3) i whole (here .more) calls (λ q. z (e ∙ q))) ∙ g .uncounted,
   )
 
-  module _ (d : Decision) (d-is : d ≡ decision (here .sizes) v (here .owning) (getD b (3 * o) 0) a o) where
-    decides : d ≡ decision (sizes-of whole) (move-view whole p a o) (owning-of whole p a) (thread-of whole o .status) a o
+  -- its decision, and its refusal once it is asked whether the thread is free of mutexes
+  module _ (d : Decision) (d-is : d ≡ decision (here .sizes) v (getD b (3 * o) 0) a o) (n : ℕ) (n-is : n ≡ cleared (owns-none xs (s .m) (r .current)) (d .refusal)) where
+    decides : d ≡ decision (sizes-of whole) (move-view whole p a o) (thread-of whole o .status) a o
     decides =
         d-is ∙
-        ap (λ (q : Sizes). decision q v (here .owning) (getD b (3 * o) 0) a o) (here .sizes-is) ∙
-        ap (λ (q : View). decision (sizes-of s) q (here .owning) (getD b (3 * o) 0) a o) sees ∙
-        ap (λ (x : Bool). decision (sizes-of s) (move-view whole p a o) x (getD b (3 * o) 0) a o) owns ∙
-        ap (λ (n : ℕ). decision (sizes-of s) (move-view whole p a o) (owning-of whole p a) n a o)
+        ap (λ (q : Sizes). decision q v (getD b (3 * o) 0) a o) (here .sizes-is) ∙
+        ap (λ (q : View). decision (sizes-of s) q (getD b (3 * o) 0) a o) sees ∙
+        ap (λ (k : ℕ). decision (sizes-of s) (move-view whole p a o) k a o)
         (ap (λ (l : List ℕ). getD l (3 * o) 0) (g .bytes) ∙ bytes-status (g .threads) o)
 
-    refusal-is : d .refusal ≡ refusal-of whole p a o
+    refusal-is : n ≡ refusal-of whole p a o
     unfolding decision
-    refusal-is = ap (λ (q : Decision). q .refusal) decides ∙ decided whole p a o
+    refusal-is =
+        n-is ∙
+        ap (λ (q : Processor). cleared (owns-none xs (s .m) (q .current)) (d .refusal)) (here .processor-is) ∙
+        ap (λ (q : Decision). cleared (owns-none xs (s .m) (processor-of whole p .current)) (q .refusal)) decides ∙
+        decided whole p a o
 
-    pub running-stop : (d .refusal ≡ 0 → ⊥) → (ran (d .refusal) i whole ≡ run-of start j) × (calls ≡ counted-of start j first)
-    running-stop = stopped (d .refusal) refusal-is
+    pub running-stop : (n ≡ 0 → ⊥) → (ran n i whole ≡ run-of start j) × (calls ≡ counted-of start j first)
+    running-stop = stopped n refusal-is
 
-    module _ (z : d .refusal ≡ 0) where
-      accepts : eqb (refusal-seen (here .sizes) v (here .owning) (getD b (3 * o) 0) a o) 0 ≡ true
+    module _ (z : n ≡ 0) where
+      accepts : tried (refusal-seen (here .sizes) v (getD b (3 * o) 0) a o) ≡ true
       unfolding decision
-      accepts = eq-eqb _ 0 (sym (ap (λ (q : Decision). q .refusal) d-is) ∙ z)
+      accepts =
+          cleared-tried (owns-none xs (s .m) (r .current)) (refusal-seen (here .sizes) v (getD b (3 * o) 0) a o)
+          (ap (cleared (owns-none xs (s .m) (r .current))) (sym (ap (λ (q : Decision). q .refusal) d-is)) ∙ sym n-is ∙ z)
 
       effect-is : d .effect ≡ act-effect a o v
       unfolding decision act-outcome
@@ -371,8 +476,8 @@ module _ {start : State} {j first : List ℕ} (here : Reading start j first) whe
           sym (ap (set xs m) (ap (λ (q : Effect). q .mutex) effect-is ∙ keeps (here .sizes .t) a o v (sym writes-is ∙ w) ∙ ap (λ (q : View). q .mutex) (here .view-is) ∙ here .mutex-is) ∙
           set-getD xs m zero-mutex)
 
-      module _ (n : State) (calls' f' b' : List ℕ) (ps' : List Processor) (xs' : List Mutex)
-          (n-is : n ≡ with-applied (up-to 65535 (s .applied)) s) (calls-is : calls' ≡ choose (eqb a 0) calls (noted calls (r .current)))
+      module _ (after : State) (calls' f' b' : List ℕ) (ps' : List Processor) (xs' : List Mutex)
+          (after-is : after ≡ with-applied (up-to 65535 (s .applied)) s) (calls-is : calls' ≡ choose (eqb a 0) calls (noted calls (r .current)))
           (f-is : f' ≡ carried-firsts f (d .effect .transfer)) (b-is : b' ≡ carried-threads f b p (d .effect .transfer))
           (ps-is : ps' ≡ set ps p (d .effect .proc)) (xs-is : xs' ≡ set xs m (d .effect .mutex)) where
         accepted : refusal-of whole p a o ≡ 0
@@ -390,8 +495,8 @@ module _ {start : State} {j first : List ℕ} (here : Reading start j first) whe
             ap (made (act-effect a o (move-view whole p a o))) target-is ∙
             stepped-is whole p a o
 
-        gathers : gathered-of n f' (threads-after (d .effect)) ps' xs' (n .applied) ≡ made (d .effect) m
-        gathers = rw (n-is, f-is, ps-is, xs-is)
+        gathers : gathered-of after f' (threads-after (d .effect)) ps' xs' (after .applied) ≡ made (d .effect) m
+        gathers = rw (after-is, f-is, ps-is, xs-is)
 
         bytes-more : b' ≡ bytes-of (threads-after (d .effect))
         bytes-more = b-is ∙ ap (λ (l : List ℕ). carried-threads f l p (d .effect .transfer)) (g .bytes) ∙ carried-bytes (whole .chains) p (d .effect .transfer)
@@ -399,7 +504,7 @@ module _ {start : State} {j first : List ℕ} (here : Reading start j first) whe
         notes : calls' ≡ noted-at whole j i calls
         notes = calls-is ∙ ap (λ (q : Processor). choose (eqb a 0) calls (noted calls (q .current))) (here .processor-is)
 
-        pub running-more : Running start j first (i + 1) n calls' f' b' ps' xs'
+        pub running-more : Running start j first (i + 1) after calls' f' b' ps' xs'
         running-more =
             record {
               threads = threads-after (d .effect);

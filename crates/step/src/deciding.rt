@@ -23,19 +23,13 @@ pub(crate) fn refused(refusal: u8, v: View) -> Decision
     }
 }
 
-// The first cause that is there before the move is tried, then 15, else its effect. The threads are bytes, and the operand names one of them.
-pub(crate) fn decide(
-    threads: &[u8],
-    z: Sizes,
-    v: View,
-    owning: bool,
-    action: u8,
-    operand: u8,
-) -> Decision
-    ensures { λ r. ⌜ r ≡ decision z v owning (getD (now (threads .entry)) (3 * operand) 0) action operand ⌝ }
+// The first cause that is there before the move is tried, then 15, else its effect. An exit that has no other cause is answered 21 with its effect: whether its
+// thread owns a mutex is for `run` to ask. The threads are bytes, and the operand names one of them.
+pub(crate) fn decide(threads: &[u8], z: Sizes, v: View, action: u8, operand: u8) -> Decision
+    ensures { λ r. ⌜ r ≡ decision z v (getD (now (threads .entry)) (3 * operand) 0) action operand ⌝ }
 {
-    let first = cause(threads, z, v, owning, action, operand);
-    if first != 0 {
+    let first = cause(threads, z, v, action, operand);
+    if (first != 0) & (first != Refusal::STILL_OWNER) {
         return refused(first, v);
     }
     let done = act(z.t, action, operand, v);
@@ -44,7 +38,7 @@ pub(crate) fn decide(
     }
     let effect = done.effect;
     Decision {
-        refusal: 0,
+        refusal: first,
         writes: done.writes,
         effect,
     }

@@ -52,6 +52,7 @@ pub struct Outcome {
 }
 
 // A move's decision: why it is refused, or 0; whether it may change its mutex; and its effect, which leaves the view where the move is refused.
+// 21 is the answer to an exit that is refused only if its thread owns a mutex, and comes with its effect.
 pub struct Decision {
     pub refusal: u8,
     pub writes: bool,

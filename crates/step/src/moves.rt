@@ -29,6 +29,7 @@ use state::queues::ready_queues;
 use state::queues::take;
 use state::queues::threads_of;
 use state::range::in_range;
+use state::refusal::Refusal;
 
 // The mutex that a move works on: that of a call on one, else the processor's.
 pub(crate) fn target(action: u8, mutex: u8, operand: u8) -> u8
@@ -184,10 +185,11 @@ pub fn run(mut s: State, moves: &[u8], calls: &mut [u16]) -> Run
         let x = mutex_by_fields(if j < 9 { mutexes[j] } else { free });
         let v = look(&firsts, &bytes, s.stealing, s.p, p, r, m, x);
         let z = sizes(s.p, s.t, s.m, s.applied);
-        let owning = action == 5 && !owns_none(mutexes, s.m, r.current);
-        let done = decide(&bytes, z, v, owning, action, operand);
-        if done.refusal != 0 {
-            return ended(done.refusal, made, s, firsts, &bytes, processors, mutexes);
+        let done = decide(&bytes, z, v, action, operand);
+        let cleared = done.refusal == Refusal::STILL_OWNER && owns_none(mutexes, s.m, r.current);
+        let refusal = if cleared { 0 } else { done.refusal };
+        if refusal != 0 {
+            return ended(refusal, made, s, firsts, &bytes, processors, mutexes);
         }
         note_move(calls, action, r.current);
         let e = done.effect;

@@ -15,7 +15,7 @@ use Rattle.state.specs.declared.queues.Taken.{Taken}
 use Rattle.state.specs.declared.queues.Taken.the-variants.{Thread, Nothing}
 use Rattle.state.specs.Record.{zero-token, mutex-in, processor-of, mutex-of, thread-of}
 use Rattle.state.specs.model.Access.{taken-in, with-thread, joined-firsts, joined-threads, taken, removed, joined, placed, with-processor, with-mutex, with-chains, with-applied}
-use Rattle.reference.specs.Refusal.{bad-record}
+use Rattle.reference.specs.Refusal.{bad-record, still-owner}
 use Rattle.reference.specs.Lists.{choose, if-zero, in-range, around, each}
 use Rattle.reference.specs.State.{queues}
 use Rattle.reference.specs.Cause.{Facts, first-cause}
@@ -271,9 +271,9 @@ operand-fits z a o = choose (in-range 1 3 a) (in-range 1 (z .m) o) (choose (eqb 
 abbrev pub sizes-of : State → Sizes
 sizes-of s = record { p = s .p; t = s .t; m = s .m; applied = s .applied }
 
--- thread k owns none of the mutexes 1 to m
+-- thread k owns none of the mutexes 1 to m, of 8
 abbrev pub owns-none : List Mutex → ℕ → ℕ → Bool
-owns-none mutexes m k = each (λ i. not (eqb (mutex-in mutexes i .owner) k)) 1 m
+owns-none mutexes m k = each (λ i. ltb m i || not (eqb (mutex-in mutexes i .owner) k)) 1 8
 
 -- what decides the cause of action a with operand o, by what it sees, whether its thread owns a mutex, and the status of the thread that its operand names;
 -- whether the processor is there and whether the action is go are handed in
@@ -287,10 +287,10 @@ facts-of there goes z v owning status a o =
       at-app = eqb (v .proc .position) 0;
       unlocks = eqb a 3;
       owner = eqb (v .mutex .owner) (v .proc .current);
-      exits = eqb a 5;
-      owning = owning;
       creates = eqb a 6;
       is-new = eqb status 0;
+      exits = eqb a 5;
+      owning = owning;
     }
 
 unfoldable pub cause-seen : Sizes → View → Bool → ℕ → ℕ → ℕ → ℕ
@@ -326,21 +326,29 @@ act-outcome t a o v =
 
 -- ---- a move's decision
 
--- the first cause, then 15
-unfoldable pub refusal-seen : Sizes → View → Bool → ℕ → ℕ → ℕ → ℕ
-refusal-seen z v owning status a o =
-    let n = cause-seen z v owning status a o in
-    choose (eqb n 0) (choose (act-outcome (z .t) a o v .broken) bad-record 0) n
+-- no cause but, for an exit, that the thread may own a mutex
+abbrev pub tried : ℕ → Bool
+tried n = eqb n 0 || eqb n still-owner
+
+-- the first cause of a thread that owns a mutex; where the move is tried, 15
+unfoldable pub refusal-seen : Sizes → View → ℕ → ℕ → ℕ → ℕ
+refusal-seen z v status a o =
+    let n = cause-seen z v true status a o in
+    choose (tried n) (choose (act-outcome (z .t) a o v .broken) bad-record n) n
 
 -- refused, the view is left
-unfoldable pub decision : Sizes → View → Bool → ℕ → ℕ → ℕ → Decision
-decision z v owning status a o =
-    let accepted = eqb (refusal-seen z v owning status a o) 0 in
+unfoldable pub decision : Sizes → View → ℕ → ℕ → ℕ → Decision
+decision z v status a o =
+    let made = tried (refusal-seen z v status a o) in
     record {
-      refusal = refusal-seen z v owning status a o;
-      writes = accepted && act-outcome (z .t) a o v .writes;
-      effect = choose accepted (act-outcome (z .t) a o v .effect) (stay v);
+      refusal = refusal-seen z v status a o;
+      writes = made && act-outcome (z .t) a o v .writes;
+      effect = choose made (act-outcome (z .t) a o v .effect) (stay v);
     }
+
+-- 21 stands unless the thread is free of mutexes
+abbrev pub cleared : Bool → ℕ → ℕ
+cleared free n = choose (eqb n still-owner && free) 0 n
 
 -- ---- a whole move
 
@@ -369,12 +377,12 @@ carried c p (Mark k status holder) = placed c k (record { status = status; holde
 abbrev pub move-view : State → ℕ → ℕ → ℕ → View
 move-view s p a o = view-of s p (target-of a (processor-of s p .mutex) o)
 
--- whether processor p's thread owns a mutex, which only an exit asks
-abbrev pub owning-of : State → ℕ → ℕ → Bool
-owning-of s p a = eqb a 5 && not (owns-none (s .mutexes) (s .m) (processor-of s p .current))
+-- whether processor p's thread owns a mutex
+abbrev pub owning-of : State → ℕ → Bool
+owning-of s p = not (owns-none (s .mutexes) (s .m) (processor-of s p .current))
 
 abbrev pub cause-of : State → ℕ → ℕ → ℕ → ℕ
-cause-of s p a o = cause-seen (sizes-of s) (move-view s p a o) (owning-of s p a) (thread-of s o .status) a o
+cause-of s p a o = cause-seen (sizes-of s) (move-view s p a o) (owning-of s p) (thread-of s o .status) a o
 
 unfoldable pub step-breaks-of : State → ℕ → ℕ → Bool
 step-breaks-of s p a = eqb a 0 && breaks-at (s .t) (view-of s p (processor-of s p .mutex))

@@ -67,7 +67,7 @@ returns-6 c =
       lt-leb _ _ (second .if2 .left),
       eq-eqb _ _ (third .if3 .left),
       fourth .if4 .left,
-      fifth .if5 .left,
+      ne-eqb _ _ (fifth .if5 .left),
       c .create-refusal .ensures,
     )
 

@@ -1,7 +1,7 @@
 -- `step::moves::run` meets its contract: the loop's invariant says that the parts are those of the record after the moves made.
 -- Assumes nothing.
 use Prim.Native.Nat.{ℕ, _≤_, _-_, _*_, _/_}
-use mathlib.Core.Bool.{not}
+use mathlib.Core.Bool.{Bool}
 use mathlib.Core.Logic.{_⊎_, inl, inr}
 use mathlib.Core.List.{List}
 use mathlib.Core.Path.{_≡_, ap, _∙_}
@@ -19,8 +19,8 @@ use Rattle.state.specs.model.Access.{thread-from, bytes-of}
 use Rattle.state.proofs.Bytes.{threads-back}
 use Rattle.state.proofs.Past.{read-past, write-past}
 use Rattle.state.proofs.Sized.{sized}
-use Rattle.step.specs.model.Moves.{gathered-of, ran}
-use Rattle.step.proofs.InPlace.{Running, Reading, running-start, running-stop, unwritten, running-more, running-end, bytes-size, calls-size}
+use Rattle.step.specs.model.Moves.{owns-none, gathered-of, ran}
+use Rattle.step.proofs.InPlace.{Running, Reading, running-start, asked, running-stop, unwritten, running-more, running-end, bytes-size, calls-size}
 use Rattle.step.proofs.moves.run.Statement.{statement}
 use Rattle.step.proofs.moves.run.Tie as tie
 
@@ -57,10 +57,10 @@ decide-ready c κs = search needs
 
 -- before the move is decided: the move, as it was read
 abbrev read : (c : stage decide-ready) →
-    let t = c .before .before .before .before .before .before .before .before .before .before .before .before .before .before .before .before .before .before .before .before .before .before .before .before .before .before in
+    let t = c .before .before .before .before .before .before .before .before .before .before .before .before .before .before .before .before .before .before .before .before .before .before .before .before .before in
     Reading (t .args .s) (t .args .moves .now) (t .args .calls .now)
 read c =
-    let look = c .before .before .before in
+    let look = c .before .before in
     let mutex = look .before .before .before in
     let target = mutex .before .before in
     let proc = target .before in
@@ -95,12 +95,8 @@ read c =
           either (λ w. w .2) (λ w. w .1 ∙ zero .zero2 .ensures ∙ read-past (l .mutexes) 9 m (g .mutexes-size) (w .0 .left) zero-mutex)
           (mutex .before .if2 .came);
       view-is = look .look .ensures;
-      sizes = c .before .before .sizes .result;
-      sizes-is = c .before .before .sizes .ensures;
-      owning = c .before .if3 .owning;
-      owning-is =
-          either (λ w. w .2 ∙ rw (eq-eqb _ 5 (w .0 .taken)) (ap not (w .1 .ensures))) (λ w. w .1 ∙ rw (ne-eqb _ 5 (w .0 .left)))
-          (c .before .if3 .came);
+      sizes = c .before .sizes .result;
+      sizes-is = c .before .sizes .ensures;
     }
 
 -- the record that the end gathers
@@ -110,38 +106,55 @@ gathered : {start : State} {j first : List ℕ} (here : Reading start j first) �
 gathered here =
     back (here .state) (here .firsts) (here .bytes) (here .processors) (here .mutexes) (here .running .threads) (here .running .bytes) (here .running .threads-size)
 
+-- the thread of the next move owns no mutex
+abbrev unowned : {start : State} {j first : List ℕ} → Reading start j first → Bool
+unowned here = owns-none (here .mutexes) (here .state .m) (here .processor .current)
+
 returns : tie.Need-returns Inv-loop μ-loop
 returns c =
-    let decide = c .before .before .before in
+    let chosen = c .before .before .before in
+    let asking = chosen .before in
+    let decide = asking .before in
     let here = read (decide .before) in
-    let stop = running-stop here (decide .decide .result) (decide .decide .ensures) (c .before .before .if4 .taken) in
-    (c .ended .ensures ∙ ap (ran (decide .decide .result .refusal) (here .made)) (gathered here) ∙ stop .0, stop .1)
+    let n = chosen .if4 .refusal in
+    let n-is = asked (unowned here) (decide .decide .result .refusal) n (asking .if3 .cleared)
+    (either (λ w. w .2 ∙ rw (eq-eqb _ 21 (w .0 .taken)) (w .1 .ensures)) (λ w. w .1 ∙ rw (ne-eqb _ 21 (w .0 .left))) (asking .if3 .came))
+    (either (λ w. inl (w .0 .taken, w .1)) (λ w. inr (w .0 .left, w .1)) (chosen .if4 .came))
+    in
+    let stop = running-stop here (decide .decide .result) (decide .decide .ensures) n n-is (c .before .before .if5 .taken) in
+    (c .ended .ensures ∙ ap (ran n (here .made)) (gathered here) ∙ stop .0, stop .1)
 
 loop-again : tie.Need-loop-again Inv-loop μ-loop
 loop-again c =
     let carried = c .before .before .before .before .before .carry in
     let noting = c .before .before .before .before .before .before .before .before .before .before .before .note-move in
     let accepted = c .before .before .before .before .before .before .before .before .before .before .before .before .before in
-    let decide = accepted .before in
+    let chosen = accepted .before in
+    let asking = chosen .before in
+    let decide = asking .before in
     let here = read (decide .before) in
     let e = decide .decide .result .effect in
-    let p = getD (c .before .before .before .before .before .before .before .before .before .before .before .before .before .before .before .before .before .before .before .before .before .before .before .before .before .before .before .before .before .before .before .before .before .before .before .before .before .before .before .before .before .args .moves .now) (3 * here .made) 0 in
-    let ps : c .before .if7 .processors ≡ set (here .processors) p (e .proc) =
+    let p = getD (c .before .before .before .before .before .before .before .before .before .before .before .before .before .before .before .before .before .before .before .before .before .before .before .before .before .before .before .before .before .before .before .before .before .before .before .before .before .before .before .before .before .before .args .moves .now) (3 * here .made) 0 in
+    let ps : c .before .if8 .processors ≡ set (here .processors) p (e .proc) =
     either (λ w. w .3 ∙ ap (set (here .processors) p) (w .2 .ensures))
-    (λ w. w .1 ∙ write-past (here .processors) 9 p (here .running .processors-size) (w .0 .left) (e .proc)) (c .before .if7 .came)
+    (λ w. w .1 ∙ write-past (here .processors) 9 p (here .running .processors-size) (w .0 .left) (e .proc)) (c .before .if8 .came)
     in
-    let same = unwritten here (decide .decide .result) (decide .decide .ensures) (accepted .if4 .left) in
-    let xs : c .before .before .if5 .mutexes ≡ set (here .mutexes) (here .target) (e .mutex) =
+    let n-is = asked (unowned here) (decide .decide .result .refusal) (chosen .if4 .refusal) (asking .if3 .cleared)
+    (either (λ w. w .2 ∙ rw (eq-eqb _ 21 (w .0 .taken)) (w .1 .ensures)) (λ w. w .1 ∙ rw (ne-eqb _ 21 (w .0 .left))) (asking .if3 .came))
+    (either (λ w. inl (w .0 .taken, w .1)) (λ w. inr (w .0 .left, w .1)) (chosen .if4 .came))
+    in
+    let same = unwritten here (decide .decide .result) (decide .decide .ensures) (chosen .if4 .refusal) n-is (accepted .if5 .left) in
+    let xs : c .before .before .if6 .mutexes ≡ set (here .mutexes) (here .target) (e .mutex) =
     either (λ w. w .4 ∙ ap (set (here .mutexes) (here .target)) (w .3 .ensures))
     (λ w.
     w .1 ∙
     either (λ u. write-past (here .mutexes) 9 (here .target) (here .running .mutexes-size) (ltb-false (here .target) 9 (u .1 .left)) (e .mutex)) (λ u. same (u .left))
     (w .0 .came))
-    (c .before .before .if5 .came)
+    (c .before .before .if6 .came)
     in
-    let at = running-more here (decide .decide .result) (decide .decide .ensures) (accepted .if4 .left) in (
+    let at = running-more here (decide .decide .result) (decide .decide .ensures) (chosen .if4 .refusal) n-is (accepted .if5 .left) in (
       omega (arith, here .more),
-      at _ (noting .last .0) (carried .last .0) (carried .last .1 .0) (c .before .if7 .processors) (c .before .before .if5 .mutexes)
+      at _ (noting .last .0) (carried .last .0) (carried .last .1 .0) (c .before .if8 .processors) (c .before .before .if6 .mutexes)
           (rw (c .up-wide .ensures)) (noting .ensures) (carried .ensures .0) (carried .ensures .1) ps xs,
     )
 
@@ -187,16 +200,16 @@ run-spec =
     (λ c. omega (arith, bytes-size _ _ _ _ _ _ _ _ _ _ (c .before .before .before .before .before .before .before .before .before .before .before .loop .inv .1)))
     (λ c κs. search needs)
     (λ c κs. search needs)
-    (λ c κs. search needs)
-    (λ c. omega (arith, bytes-size _ _ _ _ _ _ _ _ _ _ (c .before .before .before .before .before .before .before .before .before .before .before .before .before .before .before .loop .inv .1)))
+    (λ c. omega (arith, bytes-size _ _ _ _ _ _ _ _ _ _ (c .before .before .before .before .before .before .before .before .before .before .before .before .before .before .loop .inv .1)))
     decide-ready
-    (λ c. omega (arith, bytes-size _ _ _ _ _ _ _ _ _ _ (c .before .before .before .before .before .before .before .before .before .before .before .before .before .before .before .before .before .before .loop .inv .1)))
     (λ c κs. search needs)
-    (λ c. calls-size _ _ _ _ _ _ _ _ _ _ (c .before .before .before .before .before .before .before .before .before .before .before .before .before .before .before .before .before .before .before .loop .inv .1))
+    (λ c. omega (arith, bytes-size _ _ _ _ _ _ _ _ _ _ (c .before .before .before .before .before .before .before .before .before .before .before .before .before .before .before .before .before .before .before .loop .inv .1)))
+    (λ c κs. search needs)
+    (λ c. calls-size _ _ _ _ _ _ _ _ _ _ (c .before .before .before .before .before .before .before .before .before .before .before .before .before .before .before .before .before .before .before .before .loop .inv .1))
     returns
     (λ c κs. search needs)
-    (λ c. omega (arith, c .before .before .before .before .before .before .before .before .before .before .before .before .before .before .before .before .before .before .before .before .before .before .before .loop .inv .1 .firsts-size))
-    (λ c. omega (arith, bytes-size _ _ _ _ _ _ _ _ _ _ (c .before .before .before .before .before .before .before .before .before .before .before .before .before .before .before .before .before .before .before .before .before .before .before .before .loop .inv .1)))
+    (λ c. omega (arith, c .before .before .before .before .before .before .before .before .before .before .before .before .before .before .before .before .before .before .before .before .before .before .before .before .loop .inv .1 .firsts-size))
+    (λ c. omega (arith, bytes-size _ _ _ _ _ _ _ _ _ _ (c .before .before .before .before .before .before .before .before .before .before .before .before .before .before .before .before .before .before .before .before .before .before .before .before .before .loop .inv .1)))
     (λ c κs. search needs)
     (λ c κs. search needs)
     (λ c. omega (arith, ltb-true))
@@ -205,8 +218,8 @@ run-spec =
     (λ c. search needs)
     (λ c. search needs)
     (λ c κs. search needs)
-    (λ c. let l = c .before .before .before .before .before .before .before .before .before .before .before .before .before .before .before .before .before .before .before .before .before .before .before .before .before .before .before .before .before in omega (arith, l .loop-test .taken, l .before .before .before .before .before .before .before .before .before .before .before .before .good .1 .0))
-    (λ c. let l = c .before .before .before .before .before .before .before .before .before .before .before .before .before .before .before .before .before .before .before .before .before .before .before .before .before .before .before .before .before in omega (arith, l .loop-test .taken))
+    (λ c. let l = c .before .before .before .before .before .before .before .before .before .before .before .before .before .before .before .before .before .before .before .before .before .before .before .before .before .before .before .before .before .before in omega (arith, l .loop-test .taken, l .before .before .before .before .before .before .before .before .before .before .before .before .good .1 .0))
+    (λ c. let l = c .before .before .before .before .before .before .before .before .before .before .before .before .before .before .before .before .before .before .before .before .before .before .before .before .before .before .before .before .before .before in omega (arith, l .loop-test .taken))
     loop-again
     (λ c. omega (arith, bytes-size _ _ _ _ _ _ _ _ _ _ (c .before .before .loop .inv .1)))
     (λ c κs. search needs)
