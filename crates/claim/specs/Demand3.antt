@@ -128,7 +128,7 @@ module _ (impl : Implementation) where
       -- the journal's length, and its bytes where no move ever stood, are those that it came with
       pub size : length (held-at-end .journal) ≡ length j
       pub untouched : drop (3 * highest) (held-at-end .journal) ≡ drop (3 * highest) j
-      -- by the history of the list no mutex has two owners, every thread is in exactly one place and nobody is left waiting
+      -- by the history of the list no mutex has two owners, an owner is a living thread, every thread is in exactly one place and nobody is left waiting
       pub safe : Safe config listed
 
   pub record Demand3 : Type 0 where

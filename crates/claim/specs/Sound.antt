@@ -47,7 +47,7 @@ module _ (impl : Implementation) (r : Session) (j : List ℕ) (q : Request) wher
     -- as many moves stand as the state says, and the journal's first bytes are these moves
     pub count : shown (done .session) .applied ≡ length after
     pub front : take (3 * length after) (done .journal) ≡ bytes after
-    -- by their history no mutex has two owners, every thread is in exactly one place and nobody is left waiting
+    -- by their history no mutex has two owners, an owner is a living thread, every thread is in exactly one place and nobody is left waiting
     pub safe : Safe table after
 
 -- any record, any journal, anything that is asked and accepted
