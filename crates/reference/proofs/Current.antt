@@ -1,6 +1,7 @@
 -- What the current thread of a processor owns, it owns after every move of another processor.
 -- Assumes nothing.
 use Prim.Native.Nat.{ℕ, zero, suc, _≤_, _<_}
+use mathlib.Core.List.{List}
 use mathlib.Core.Logic.{_≢_}
 use mathlib.Core.Path.{_≡_, refl, ap, sym, _∙_}
 use native.Mathlib.Omega.{arith}
@@ -9,7 +10,7 @@ use Rattle.reference.specs.State.{Mutex, State, Line, U1, nobody, free-m
 use Rattle.reference.specs.Step.{View, Action, go, lock, trylock, unlock, yield, exit, create, line, act, view, does}
 use Rattle.reference.specs.History.{gains, drops}
 use Rattle.reference.specs.Safe.{In}
-use Rattle.reference.proofs.Sums.{is-same, sum-two, at-put, choose-by}
+use Rattle.reference.proofs.Sums.{is-same, sum-two, at-put, put-same, choose-by}
 use Rattle.reference.proofs.Invariant.{Good, go-fit, in-registers}
 use Rattle.reference.proofs.Owners.{Event, event}
 
@@ -58,9 +59,7 @@ module _ (s : State) (g : Good s) (p : ℕ) (rp : In (s .P) p) where
         by (suc a) b x y o = absurd (omega (arith, e .got (omega arith)))
 
     after-call : (j : ℕ) → at (put (s .mutexes) j (mutex-at s j)) m free-mutex .owner ≡ k
-    after-call j =
-        at-put (λ (i : ℕ) (x : Mutex). mutex-at s i .owner ≡ k → x .owner ≡ k) (s .mutexes) j m (mutex-at s j) free-mutex (omega (arith, g .mutexes))
-        (λ i o. o) (λ z o. o) owns
+    after-call j = ap (λ (xs : List Mutex). at xs m free-mutex .owner) (put-same (s .mutexes) j free-mutex) ∙ owns
 
     pub owner-stays : (a : Action) (o : ℕ) → mutex-at (does s q a o) m .owner ≡ k
     unfolding act

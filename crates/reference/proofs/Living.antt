@@ -10,14 +10,14 @@ use native.Mathlib.Omega.{arith}
 use lib.Dec.{eqb}
 use borrow.Author.Tests.{eqb-false, not-true}
 use Rattle.reference.specs.Lists.{at, put, is, occurrences, if-zero, if-empty}
-use Rattle.reference.specs.State.{Mutex, live, terminated, State, Line, free-mutex, processor-at, mutex-at, life-at, same-line, L1, TL1, GT3, L9, H2}
+use Rattle.reference.specs.State.{Mutex, Life, live, terminated, State, Line, free-mutex, processor-at, mutex-at, life-at, same-line, L1, TL1, GT3, L9, H2}
 use Rattle.reference.specs.Step.{View, Action, go, lock, trylock, unlock, yield, exit, create, unchanged, line, act, view, does, Move, action-of, next, run}
 use Rattle.reference.specs.Cause.{operand-fits, owns-none, accepted}
 use Rattle.reference.specs.History.{gains, drops}
 use Rattle.reference.specs.Safe.{In}
 use Rattle.reference.proofs.Tests.{range-true}
 use Rattle.reference.proofs.Each.{each-at}
-use Rattle.reference.proofs.Sums.{is-same, sum-at, at-put, at-put-same, at-put-other, choose-by, if-zero-by, if-empty-by}
+use Rattle.reference.proofs.Sums.{is-same, sum-at, at-put, at-put-same, at-put-other, put-same, choose-by, if-zero-by, if-empty-by}
 use Rattle.reference.proofs.Legal.{Here, legal, accepted-cons}
 use Rattle.reference.proofs.Local.{first-taken}
 use Rattle.reference.proofs.Invariant.{Good, go-fit, next-good}
@@ -76,12 +76,10 @@ module _ (s : State) (g : Good s) (l : Living s) (p : ℕ) (rp : In (s .P) p) (e
       owner-lives rc (suc a) b x y =
           ap (life-at s) (e .got (omega arith) .0) ∙ gains-by (λ k. life-at s k ≡ live) h v refl (current-lives s g p rp) (first-lives c rc)
 
-  -- a call leaves each mutex its owner; what it makes of the lives is f
-  after-call : (f : ℕ → Type 0) (j : ℕ) → ((m : ℕ) → In (s .M) m → f (mutex-at s m .owner)) → (m : ℕ) → In (s .M) m →
-      f (at (put (s .mutexes) j (mutex-at s j)) m free-mutex .owner)
-  after-call f j h m rm =
-      at-put (λ (k : ℕ) (x : Mutex). f (x .owner)) (s .mutexes) j m (mutex-at s j) free-mutex (omega (arith, g .mutexes))
-      (λ i. h j (omega (arith, g .mutexes))) (λ n. h m rm)
+  -- a call leaves each mutex; `lives` are the lives after it
+  after-call : (lives : ℕ → Life) (j : ℕ) → ((m : ℕ) → In (s .M) m → lives (mutex-at s m .owner) ≡ live) → (m : ℕ) → In (s .M) m →
+      lives (at (put (s .mutexes) j (mutex-at s j)) m free-mutex .owner) ≡ live
+  after-call lives j h m rm = ap (λ (xs : List Mutex). lives (at xs m free-mutex .owner)) (put-same (s .mutexes) j free-mutex) ∙ h m rm
 
   created-lives : (o k : ℕ) → In (s .T) o → life-at s k ≡ live → at (put (s .lives) o live) k live ≡ live
   created-lives o k r h =
@@ -97,15 +95,15 @@ module _ (s : State) (g : Good s) (l : Living s) (p : ℕ) (rp : In (s .P) p) (e
   does-living : (a : Action) (o : ℕ) → operand-fits s a o ≡ true → Here s p a o → Living (does s p a o)
   unfolding act
   does-living go o c h = after-line
-  does-living lock o c h = after-call (λ k. life-at s k ≡ live) o l
-  does-living trylock o c h = after-call (λ k. life-at s k ≡ live) o l
-  does-living unlock o c h = after-call (λ k. life-at s k ≡ live) o l
-  does-living yield o c h = after-call (λ k. life-at s k ≡ live) (processor-at s p .mutex) l
+  does-living lock o c h = after-call (life-at s) o l
+  does-living trylock o c h = after-call (life-at s) o l
+  does-living unlock o c h = after-call (life-at s) o l
+  does-living yield o c h = after-call (life-at s) (processor-at s p .mutex) l
   does-living exit o c h =
-      after-call (λ k. at (put (s .lives) (processor-at s p .current) terminated) k live ≡ live) (processor-at s p .mutex)
+      after-call (λ k. at (put (s .lives) (processor-at s p .current) terminated) k live) (processor-at s p .mutex)
       (λ m r. at-put-other (s .lives) (processor-at s p .current) (mutex-at s m .owner) terminated live (another (h .owns-none refl) m r) ∙ l m r)
   does-living create o c h =
-      after-call (λ k. at (put (s .lives) o live) k live ≡ live) (processor-at s p .mutex) (λ m r. created-lives o (mutex-at s m .owner) (range-true 1 (s .T) o c) (l m r))
+      after-call (λ k. at (put (s .lives) o live) k live) (processor-at s p .mutex) (λ m r. created-lives o (mutex-at s m .owner) (range-true 1 (s .T) o c) (l m r))
 
 pub living : (ms : List Move) (s : State) → Good s → Living s → accepted s ms ≡ true → Living (run s ms)
 unfolding run next

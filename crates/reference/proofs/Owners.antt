@@ -14,7 +14,7 @@ use Rattle.reference.specs.Step.{View, Action, go, lock, trylock, unlock
 use Rattle.reference.specs.Cause.{accepted}
 use Rattle.reference.specs.History.{gains, drops, owns-after, owns-after-go, owns}
 use Rattle.reference.specs.Safe.{In}
-use Rattle.reference.proofs.Sums.{some, some-one, some-pos, choose-by, if-zero-by, if-empty-by, at-put}
+use Rattle.reference.proofs.Sums.{some, some-one, some-pos, choose-by, if-zero-by, if-empty-by, at-put, put-same}
 use Rattle.reference.proofs.Legal.{legal, accepted-cons}
 use Rattle.reference.proofs.Local.{Fit, unchanged-processor}
 use Rattle.reference.proofs.Invariant.{Good, go-fit, next-good}
@@ -120,8 +120,7 @@ module _ (s : State) (g : Good s) (p : ℕ) (rp : In (s .P) p) (early : s .appli
 
   -- a call puts back the mutex that it looked at
   after-call : (j : ℕ) → eqb (mutex-at s m .owner) k ≡ eqb (at (put (s .mutexes) j (mutex-at s j)) m free-mutex .owner) k
-  after-call j =
-      at-put (λ (i : ℕ) (x : Mutex). eqb (mutex-at s i .owner) k ≡ eqb (x .owner) k) (s .mutexes) j m (mutex-at s j) free-mutex (omega (arith, g .mutexes)) (λ i. refl) (λ n. refl)
+  after-call j = ap (λ (xs : List Mutex). eqb (at xs m free-mutex .owner) k) (sym (put-same (s .mutexes) j free-mutex))
 
   owner-kept : (a : Action) (o : ℕ) → owns-after a s p m k (eqb (mutex-at s m .owner) k) ≡ eqb (mutex-at (does s p a o) m .owner) k
   unfolding act

@@ -10,7 +10,7 @@ use native.Mathlib.Omega.{arith}
 use native.Mathlib.Decide.{ℕ-discrete}
 use lib.Dec.{eqb}
 use lib.ListN.{length, getD, set, length-set}
-use lib.Seq.{getD-set-same, getD-set-other}
+use lib.Seq.{getD-set-same, getD-set-other, set-getD}
 use borrow.Author.Tests.{eq-eqb, ne-eqb}
 use Rattle.reference.specs.Lists.{at, put, tabulate, those, sum, is, around, choose, if-zero, if-empty}
 use Rattle.reference.specs.Safe.{In}
@@ -118,6 +118,11 @@ module _ {A : Type 0} where
   at-put-other l zero j a d h = refl
   at-put-other l (suc i) zero a d h = refl
   at-put-other l (suc i) (suc j) a d h = getD-set-other l i j a d (λ e. h (ap suc e))
+
+  -- what was there is stored again
+  pub put-same : (l : List A) (i : ℕ) (d : A) → put l i (at l i d) ≡ l
+  put-same l zero d = refl
+  put-same l (suc i) d = set-getD l i d
 
   -- to show something of the j-th after a store at i: of what was stored, if j is i, and of what was there, if not
   pub at-put : (Q : ℕ → A → Type 0) (l : List A) (i j : ℕ) (a d : A) → In (length l) j → (In (length l) i → Q i a) → (j ≢ i → Q j (at l j d)) → Q j (at (put l i a) j d)
