@@ -412,6 +412,16 @@ static void yielding(void) {
         check(answers[i] == 0 && shows(s, i, made, 3 * (i + 1)), "each thread has its own place");
 }
 
+/* The numbers of the turns, and after each the picture that the moves of the accepted ones give. */
+static void answered(struct table s, const uint8_t *wanted, size_t count, const uint8_t *made) {
+    size_t stand = 0;
+    for (size_t i = 0; i < count; i++) {
+        check(answers[i] == wanted[i], "the number of a turn");
+        stand += wanted[i] == 0 ? 3 : 0;
+        check(shows(s, i, made, stand), "the picture after a turn, a refused one too");
+    }
+}
+
 /* Refused turns between accepted ones: the picture stays and the call is tried again. */
 static void refused_turns(void) {
     static const uint8_t scripts[] = {1, 3, 1, 0, 0, 0, 0, 0, 0, 0, 0, 0, 0,
@@ -423,12 +433,7 @@ static void refused_turns(void) {
     static const uint8_t wanted[] = {2, 6, 0, 0, 3, 7, 2, 6, 3, 0, 0, 7, 2};
     static const uint8_t made[] = {2, 4, 0, 2, 0, 0, 4, 5, 0, 4, 0, 0};
     check(class(s, scripts, sizeof scripts, turns, sizeof turns) == 0, "refused turns are taken");
-    size_t stand = 0;
-    for (size_t i = 0; i < sizeof turns; i++) {
-        check(answers[i] == wanted[i], "the number of a turn");
-        stand += wanted[i] == 0 ? 3 : 0;
-        check(shows(s, i, made, stand), "the picture after a turn, a refused one too");
-    }
+    answered(s, wanted, sizeof wanted, made);
 }
 
 /* Thread 1 locks and has no other call, so that its exit is refused at each turn; thread 2 exits
@@ -443,12 +448,7 @@ static void owner_turns(void) {
     static const uint8_t made[] = {1, 1, 1, 2, 2, 2, 3, 4, 0, 1, 0, 0, 2, 0, 0,
                                    3, 0, 0, 3, 5, 0, 3, 0, 0};
     check(class(s, scripts, sizeof scripts, turns, sizeof turns) == 0, "owners' turns are taken");
-    size_t stand = 0;
-    for (size_t i = 0; i < sizeof turns; i++) {
-        check(answers[i] == wanted[i], "the number of an owner's turn");
-        stand += wanted[i] == 0 ? 3 : 0;
-        check(shows(s, i, made, stand), "the picture after it");
-    }
+    answered(s, wanted, sizeof wanted, made);
     check(class_of(s, 1, scripts, sizeof scripts, turns, sizeof turns) == 0, "a queue for each");
     check(memcmp(answers, wanted, sizeof wanted) == 0, "gives the same numbers");
 }

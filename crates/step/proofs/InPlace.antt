@@ -26,7 +26,7 @@ use Rattle.step.specs.declared.Decision.{Decision}
 use Rattle.step.specs.declared.Moved.{Moved}
 use Rattle.step.specs.declared.Run.{Run}
 use Rattle.step.specs.declared.Sizes.{Sizes}
-use Rattle.step.specs.model.Moves.{target-of, index-of, view-of, seen-of, carried, carried-firsts, carried-threads, act-effect, up-to, gathered-of, owns-none, facts-of, move-view, cause-of, cause-seen, tried, cleared, step-breaks-of, refusal-of, stepped-of, moved-of, moved-at, sizes-of, act-outcome, refusal-seen, decision, ran, run-from, run-of, noted, noted-at, counted-from, counted-of}
+use Rattle.step.specs.model.Moves.{target-of, index-of, view-of, seen-of, carried, carried-firsts, carried-threads, act-effect, up-to, gathered-of, owns-none, facts-of, move-view, cause-of, cause-seen, tried, step-breaks-of, refusal-of, stepped-of, moved-of, moved-at, sizes-of, act-outcome, refusal-seen, decision, ran, run-from, run-of, noted, noted-at, counted-from, counted-of}
 use Rattle.step.proofs.Keeps.{keeps}
 use Rattle.step.proofs.Put.{carried-first, carried-bytes, length-firsts, length-threads}
 
@@ -60,50 +60,70 @@ tried-is s p (suc a) o z = rw (ne-eqb (suc a) 0 (λ e. omega arith)) (by _ (leb 
     by broken true e = rw (le-leb 1 (suc a) (omega arith), e)
     by broken false e = absurd (no-action s p (suc a) o (leb-false (suc a) 6 e) z)
 
+-- 21 stands unless the thread is free of mutexes
+abbrev cleared : Bool → ℕ → ℕ
+cleared free n = choose (eqb n 21 && free) 0 n
+
 -- the causes before 21, by their tests, and what comes after them
 abbrev before-21 : Bool → Bool → Bool → Bool → Bool → Bool → Bool → ℕ → ℕ
-before-21 q r t u w x y last = refuse q 2 (refuse r 3 (refuse t 8 (refuse u 4 (refuse w 5 (refuse x 6 (refuse y 7 last))))))
+before-21 q r t u w x y later = refuse q 2 (refuse r 3 (refuse t 8 (refuse u 4 (refuse w 5 (refuse x 6 (refuse y 7 later))))))
+
+-- none of them is there, or one that is not 21, whatever comes after
+one-before : (q r t u w x y : Bool) →
+    ((l : ℕ) → before-21 q r t u w x y l ≡ l) ⊎ ((n : ℕ) × (eqb n 21 ≡ false) × ((l : ℕ) → before-21 q r t u w x y l ≡ n))
+one-before true r t u w x y = inr (2, refl, λ l. refl)
+one-before false true t u w x y = inr (3, refl, λ l. refl)
+one-before false false true u w x y = inr (8, refl, λ l. refl)
+one-before false false false true w x y = inr (4, refl, λ l. refl)
+one-before false false false false true x y = inr (5, refl, λ l. refl)
+one-before false false false false false true y = inr (6, refl, λ l. refl)
+one-before false false false false false false true = inr (7, refl, λ l. refl)
+one-before false false false false false false false = inl (λ l. refl)
 
 module _ (z : Sizes) (v : View) (status a o : ℕ) where
-  abbrev facts : Facts
-  facts = facts-of (in-range 1 (z .p) (v .number)) (eqb a 0) z v true status a o
+  -- the cause of a thread that owns a mutex or owns none, and what is left of it where none of those before is there
+  abbrev cause-by : Bool → ℕ
+  cause-by owning = cause-seen z v owning status a o
+
+  abbrev left : Bool → ℕ
+  left owning = refuse (eqb a 5 && owning) 21 0
+
+  abbrev Which : Type 0
+  Which = ((owning : Bool) → cause-by owning ≡ left owning) ⊎ ((n : ℕ) × (eqb n 21 ≡ false) × ((owning : Bool) → cause-by owning ≡ n))
+
+  which : Which
+  unfolding cause-seen
+  which =
+      let f : Facts = facts-of (in-range 1 (z .p) (v .number)) (eqb a 0) z v true status a o in
+      elim
+      (one-before (not (f .there)) (not (f .fits)) (f .full) (not (f .goes) && not (f .at-app)) (f .goes && f .at-app) (f .unlocks && not (f .owner))
+      (f .creates && not (f .is-new)))
+      [ inl h ↦ inl (λ w. h (left w)) | inr h ↦ inr (h .0, h .1, λ w. h .2 (left w)) ]
 
   -- 21 is the cause of an exit only
-  exit-only : cause-seen z v true status a o ≡ 21 → a ≡ 5
-  unfolding cause-seen
-  exit-only e =
-      by (not (facts .there)) (not (facts .fits)) (facts .full) (not (facts .goes) && not (facts .at-app)) (facts .goes && facts .at-app) (facts .unlocks && not (facts .owner))
-      (facts .creates && not (facts .is-new)) (eqb a 5) refl e
+  exit-only : cause-by true ≡ 21 → a ≡ 5
+  exit-only e = by which
     where
-      by : (q r t u w x y b : Bool) → eqb a 5 ≡ b → before-21 q r t u w x y (refuse (b && true) 21 0) ≡ 21 → a ≡ 5
-      by true r t u w x y b d n = absurd (omega arith)
-      by false true t u w x y b d n = absurd (omega arith)
-      by false false true u w x y b d n = absurd (omega arith)
-      by false false false true w x y b d n = absurd (omega arith)
-      by false false false false true x y b d n = absurd (omega arith)
-      by false false false false false true y b d n = absurd (omega arith)
-      by false false false false false false true b d n = absurd (omega arith)
-      by false false false false false false false true d n = eqb-true a 5 d
-      by false false false false false false false false d n = absurd (omega arith)
+      five : (b : Bool) → eqb a 5 ≡ b → refuse (b && true) 21 0 ≡ 21 → a ≡ 5
+      five true d n = eqb-true a 5 d
+      five false d n = absurd (omega arith)
+
+      by : Which → a ≡ 5
+      by (inl h) = five (eqb a 5) refl (sym (h true) ∙ e)
+      by (inr h) = absurd (true≢false (sym (eq-eqb (h .0) 21 (sym (h .2 true) ∙ e)) ∙ h .1))
 
   -- the cause of a thread that may be free of mutexes, by that of one that owns some
-  cause-cleared : (free : Bool) → cleared free (cause-seen z v true status a o) ≡ cause-seen z v (not free) status a o
-  unfolding cause-seen
-  cause-cleared free =
-      by (not (facts .there)) (not (facts .fits)) (facts .full) (not (facts .goes) && not (facts .at-app)) (facts .goes && facts .at-app) (facts .unlocks && not (facts .owner))
-      (facts .creates && not (facts .is-new)) (eqb a 5) free
+  cause-cleared : (free : Bool) → cleared free (cause-by true) ≡ cause-by (not free)
+  cause-cleared free = by which
     where
-      by : (q r t u w x y b h : Bool) → cleared h (before-21 q r t u w x y (refuse (b && true) 21 0)) ≡ before-21 q r t u w x y (refuse (b && not h) 21 0)
-      by true r t u w x y b h = refl
-      by false true t u w x y b h = refl
-      by false false true u w x y b h = refl
-      by false false false true w x y b h = refl
-      by false false false false true x y b h = refl
-      by false false false false false true y b h = refl
-      by false false false false false false true b h = refl
-      by false false false false false false false true true = refl
-      by false false false false false false false true false = refl
-      by false false false false false false false false h = refl
+      left-cleared : (b h : Bool) → _≡_ {A = ℕ} (cleared h (refuse (b && true) 21 0)) (refuse (b && not h) 21 0)
+      left-cleared true true = refl
+      left-cleared true false = refl
+      left-cleared false h = refl
+
+      by : Which → cleared free (cause-by true) ≡ cause-by (not free)
+      by (inl h) = ap (cleared free) (h true) ∙ left-cleared (eqb a 5) free ∙ sym (h (not free))
+      by (inr h) = ap (cleared free) (h .2 true) ∙ ap (λ (b : Bool). choose (b && free) 0 (h .0)) (h .1) ∙ sym (h .2 (not free))
 
 -- an exit breaks no rule
 exit-unbroken : (t a o : ℕ) (v : View) → a ≡ 5 → act-outcome t a o v .broken ≡ false

@@ -346,10 +346,6 @@ decision z v status a o =
       effect = choose made (act-outcome (z .t) a o v .effect) (stay v);
     }
 
--- 21 stands unless the thread is free of mutexes
-abbrev pub cleared : Bool → ℕ → ℕ
-cleared free n = choose (eqb n still-owner && free) 0 n
-
 -- ---- a whole move
 
 abbrev pub target-of : ℕ → ℕ → ℕ → ℕ
