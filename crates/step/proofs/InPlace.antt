@@ -88,10 +88,10 @@ module _ (z : Sizes) (v : View) (status a o : ℕ) where
   abbrev left : Bool → ℕ
   left owning = refuse (eqb a 5 && owning) 21 0
 
-  abbrev Which : Type 0
-  Which = ((owning : Bool) → cause-by owning ≡ left owning) ⊎ ((n : ℕ) × (eqb n 21 ≡ false) × ((owning : Bool) → cause-by owning ≡ n))
+  abbrev Cases : Type 0
+  Cases = ((owning : Bool) → cause-by owning ≡ left owning) ⊎ ((n : ℕ) × (eqb n 21 ≡ false) × ((owning : Bool) → cause-by owning ≡ n))
 
-  which : Which
+  which : Cases
   unfolding cause-seen
   which =
       let f : Facts = facts-of (in-range 1 (z .p) (v .number)) (eqb a 0) z v true status a o in
@@ -108,7 +108,7 @@ module _ (z : Sizes) (v : View) (status a o : ℕ) where
       five true d n = eqb-true a 5 d
       five false d n = absurd (omega arith)
 
-      by : Which → a ≡ 5
+      by : Cases → a ≡ 5
       by (inl h) = five (eqb a 5) refl (sym (h true) ∙ e)
       by (inr h) = absurd (true≢false (sym (eq-eqb (h .0) 21 (sym (h .2 true) ∙ e)) ∙ h .1))
 
@@ -121,7 +121,7 @@ module _ (z : Sizes) (v : View) (status a o : ℕ) where
       left-cleared true false = refl
       left-cleared false h = refl
 
-      by : Which → cleared free (cause-by true) ≡ cause-by (not free)
+      by : Cases → cleared free (cause-by true) ≡ cause-by (not free)
       by (inl h) = ap (cleared free) (h true) ∙ left-cleared (eqb a 5) free ∙ sym (h (not free))
       by (inr h) = ap (cleared free) (h .2 true) ∙ ap (λ (b : Bool). choose (b && free) 0 (h .0)) (h .1) ∙ sym (h .2 (not free))
 
