@@ -16,6 +16,7 @@ pub mod Living
 pub mod Current
 pub mod Bound
 pub mod Laws
+pub mod Frame
 pub mod Break
 pub mod Bounds
 pub mod Slips

@@ -124,6 +124,16 @@ module _ {A : Type 0} where
   put-same l zero d = refl
   put-same l (suc i) d = set-getD l i d
 
+  set-kept : {B : Type 0} (F : A → B) (l : List A) (i : ℕ) (a d : A) → F a ≡ F (getD l i d) → F (getD (set l i a) i d) ≡ F (getD l i d)
+  set-kept F [] i a d h = refl
+  set-kept F (x ∷ xs) zero a d h = h
+  set-kept F (x ∷ xs) (suc i) a d h = set-kept F xs i a d h
+
+  -- a part of the j-th is as it was after a store at i, if what is stored has it so
+  pub at-put-kept : {B : Type 0} (F : A → B) (l : List A) (i j : ℕ) (a d : A) → (j ≡ i → F a ≡ F (at l i d)) → F (at (put l i a) j d) ≡ F (at l j d)
+  at-put-kept F l zero j a d h = refl
+  at-put-kept F l (suc i) j a d h = elim (ℕ-discrete j (suc i)) [ yes e ↦ rw e (set-kept F l i a d (h e)) | no n ↦ ap F (at-put-other l (suc i) j a d n) ]
+
   -- to show something of the j-th after a store at i: of what was stored, if j is i, and of what was there, if not
   pub at-put : (Q : ℕ → A → Type 0) (l : List A) (i j : ℕ) (a d : A) → In (length l) j → (In (length l) i → Q i a) → (j ≢ i → Q j (at l j d)) → Q j (at (put l i a) j d)
   at-put Q l i j a d r h k = elim (ℕ-discrete j i) [ yes e ↦ here e | no n ↦ rw (at-put-other l i j a d n) (k n) ]

@@ -8,6 +8,8 @@ pub mod Cause
 pub mod Break
 pub mod History
 pub mod Safe
+pub mod Touch
+pub mod Frame
 pub mod Bounds
 pub mod Slips
 pub mod Picture
