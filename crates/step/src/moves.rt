@@ -76,7 +76,7 @@ fn index_of(stealing: u8, n: u8, p: u8, r: Processor) -> u8
 }
 
 // What processor p of n, which is r, sees of mutex m, which is x, and of the queues.
-pub(crate) fn look(
+pub fn look(
     firsts: &[u8],
     threads: &[u8],
     stealing: u8,

@@ -40,7 +40,7 @@ pub(crate) fn next_probe(n: u8, probe: u8) -> u8
     if probe < down(n) { probe + 1 } else { 0 }
 }
 
-pub(crate) fn same(a: Token, b: Token) -> bool
+pub fn same(a: Token, b: Token) -> bool
     ensures { λ r. ⌜ r ≡ same-tokens a b ⌝ }
 {
     (a.processor == b.processor) & (a.sequence == b.sequence)

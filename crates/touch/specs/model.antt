@@ -1,0 +1,2 @@
+-- Models of the code, which only inner contracts cite: nobody needs to believe them.
+pub mod Made

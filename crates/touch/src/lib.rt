@@ -1,0 +1,104 @@
+// One move that also says which shared word it read and which it wrote.
+mod words;
+
+ghost use mathlib.Core.Path.{_≡_};
+ghost use Rattle.state.specs.Record.{processor-of};
+ghost use Rattle.step.specs.model.Moves.{view-of};
+ghost use Rattle.touch.specs.Association.{word-shown, kind, number};
+ghost use Rattle.touch.specs.model.Made.{made-of};
+use state::State;
+use state::access::mutex_at;
+use state::queues::bytes_of;
+use step::View;
+use step::moves::look;
+use step::moves::moved;
+
+// A shared word: the count, the token or the queue of a mutex, a ready queue (the single one is 1), the birth of a thread, or none. The owner is no word.
+pub enum Word {
+    None,
+    Count(u8),
+    Token(u8),
+    Queue(u8),
+    Ready(u8),
+    Birth(u8),
+}
+
+// The word that a move read and the one that it wrote.
+pub struct Touch {
+    pub reads: Word,
+    pub writes: Word,
+}
+
+// A move's answer: 0, or why it is refused; the state after it; and what it touched.
+pub struct Made {
+    pub refusal: u8,
+    pub state: State,
+    pub touch: Touch,
+}
+
+impl Word {
+    // 0 none, 1 count, 2 token, 3 queue, 4 ready queue, 5 birth.
+    pub fn kind(self) -> u8
+        ensures { λ r. ⌜ r ≡ kind (word-shown self) ⌝ }
+    {
+        match self {
+            Word::None => 0,
+            Word::Count(_) => 1,
+            Word::Token(_) => 2,
+            Word::Queue(_) => 3,
+            Word::Ready(_) => 4,
+            Word::Birth(_) => 5,
+        }
+    }
+
+    // Of its mutex, ready queue or thread; 0 for none.
+    pub fn number(self) -> u8
+        ensures { λ r. ⌜ r ≡ number (word-shown self) ⌝ }
+    {
+        match self {
+            Word::None => 0,
+            Word::Count(m) => m,
+            Word::Token(m) => m,
+            Word::Queue(m) => m,
+            Word::Ready(q) => q,
+            Word::Birth(k) => k,
+        }
+    }
+}
+
+// What processor p sees where it stands.
+fn seen(s: State, p: u8) -> View
+    ensures { λ v. ⌜ v ≡ view-of s p (processor-of s p .mutex) ⌝ }
+{
+    let r = s.processor(p);
+    let m = r.mutex;
+    let mutexes = s.mutexes;
+    let x = mutex_at(mutexes, m);
+    let chains = s.chains;
+    let firsts = chains.firsts;
+    let threads = chains.threads;
+    let bytes = bytes_of(threads);
+    look(&firsts, &bytes, s.stealing, s.p, p, r, m, x)
+}
+
+// One move: refused, the state stays and nothing is touched.
+pub fn make(s: State, p: u8, action: u8, operand: u8) -> Made
+    ensures { λ r. ⌜ r ≡ made-of s p action operand ⌝ }
+{
+    let done = moved(s, p, action, operand);
+    let refusal = done.refusal;
+    let state = done.state;
+    if refusal != 0 {
+        return Made {
+            refusal,
+            state,
+            touch: words::nothing(),
+        };
+    }
+    let v = seen(s, p);
+    Made {
+        refusal,
+        state,
+        touch: words::act(v, action, operand),
+    }
+}
