@@ -1,16 +1,16 @@
-//! The line program for people: the lines of `program`, answered alike, and `script`, `turn`,
-//! `turns`, `view`, `chart`, `mark`, `help`. An answer for people has several lines, the last one
-//! empty.
+//! The line program for people: the lines of `program`, answered alike but for what an accepted move
+//! touched, and `script`, `turn`, `turns`, `view`, `chart`, `mark`, `help`. An answer for people has
+//! several lines, the last one empty.
 
 use crate::chart::chart;
 use crate::lines::{self, bytes, number, words, LineProgram};
-use crate::machine::{Move, CREATE, LOCK, MOST_THREADS};
+use crate::machine::{Config, Move, CREATE, LOCK, MOST_THREADS};
 use crate::marks;
 use crate::picture;
 use crate::program::{self, Program};
 use crate::record::Record;
 use crate::script::{self, Call, MOST_CALLS, SCRIPT};
-use crate::session;
+use crate::session::{self, Step};
 use crate::view::view;
 
 /// The bytes of all scripts.
@@ -20,12 +20,13 @@ const HELP: &str = "\
 start P T M B    begin a session: processors, threads, mutexes, threads created at first
 start P T M B S  the same with the choice of ready queues: 0 a single one, 1 one for each processor
 move p a o       processor p: 0 go, 1 lock, 2 trylock, 3 unlock mutex o, 4 yield, 5 exit, 6 create thread o
+                 accepted, a move or a turn names the words that it read and wrote
 back             step back
 show             the picture in hexadecimal
 script k a o ..  the script of thread k: up to 6 calls, each an action and an operand
 turn p           a turn of processor p, by its thread's script
-turns p p ..     turns one after the other: for each its answer, then the picture
-view             the state as a table
+turns p p ..     turns one after the other: for each its number, then the picture
+view             the state as a table, r and w behind the words that the last move read and wrote
 chart            the moves that stand, a column for each processor
 mark HEX HEX     the mark of a picture: the machine's, then the candidate's
 mark HEX         the mark of a candidate's picture against the session's
@@ -96,7 +97,7 @@ impl LineProgram for Course {
             Command::Script(thread, calls) => self.script(thread, &calls),
             Command::Turn(p) => self.turn(p),
             Command::Turns(turns) => self.turns(&turns),
-            Command::View => Some(view(&self.record()?.state()?)),
+            Command::View => self.view(),
             Command::Chart => self.chart(),
             Command::Mark(machine, candidate) => self.mark(machine, &candidate),
             Command::Help => Some(HELP.to_string()),
@@ -110,16 +111,28 @@ impl Course {
         self.program.record()
     }
 
-    /// An accepted start empties all scripts.
     fn plain(&mut self, command: program::Command) -> Option<String> {
-        if let program::Command::Start(config) = command {
-            let number = self.program.start(config);
-            if number == 0 {
-                self.scripts = [0; SCRIPTS];
-            }
-            return Some(number.to_string());
+        match command {
+            program::Command::Start(config) => Some(self.start(config).to_string()),
+            program::Command::Move(made) => self.make_move(made),
+            _ => self.program.obey(command),
         }
-        self.program.obey(command)
+    }
+
+    /// An accepted start empties all scripts.
+    fn start(&mut self, config: Config) -> u8 {
+        let number = self.program.start(config);
+        if number == 0 {
+            self.scripts = [0; SCRIPTS];
+        }
+        number
+    }
+
+    fn make_move(&mut self, made: Move) -> Option<String> {
+        let (record, journal) = self.program.session()?;
+        let moved = session::make_move(record, journal, made);
+        *record = moved.value;
+        Some(answer(&moved))
     }
 
     /// Refused by 3, 19.
@@ -141,7 +154,7 @@ impl Course {
         let (record, journal) = self.program.session()?;
         let turned = script::turn(record, journal, &self.scripts, p);
         *record = turned.value;
-        Some(turned.number.to_string())
+        Some(answer(&turned))
     }
 
     /// For each turn its number and, on a line of its own, the picture after it.
@@ -160,6 +173,12 @@ impl Course {
         let both = answers.iter().zip(pictures.chunks_exact(length));
         let lines = both.map(|(answer, picture)| format!("{answer}\n{}", picture::hex(picture)));
         Some(lines.collect::<Vec<_>>().join("\n"))
+    }
+
+    /// With what the last move touched.
+    fn view(&mut self) -> Option<String> {
+        let (record, journal) = self.program.session()?;
+        Some(view(&record.state()?, session::last_touch(record, journal)))
     }
 
     fn chart(&mut self) -> Option<String> {
@@ -183,6 +202,14 @@ impl Course {
     }
 }
 
+/// A step's number and, where it is accepted, what it touched.
+fn answer(step: &Step) -> String {
+    match step.number {
+        0 => format!("0 {}", step.touch),
+        number => number.to_string(),
+    }
+}
+
 fn is_script(calls: &[Call]) -> bool {
     calls.len() <= usize::from(MOST_CALLS)
         && calls.iter().all(|[action, _]| (LOCK..=CREATE).contains(action))
@@ -194,4 +221,13 @@ pub type Reader = lines::Reader<Course>;
 /// All output for a whole input.
 pub fn run(input: &[u8]) -> String {
     lines::run::<Course>(input)
+}
+
+/// An output with the numbers of accepted moves and turns alone, as the plain program answers.
+pub fn without_words(output: &str) -> String {
+    let number = |line: &'_ str| match line.split_once(" reads ") {
+        Some((number, _)) => format!("{number}\n"),
+        None => format!("{line}\n"),
+    };
+    output.lines().map(number).collect()
 }

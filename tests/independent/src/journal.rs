@@ -4,6 +4,7 @@
 
 use crate::machine::{Config, Move, State, GO};
 use crate::record::Record;
+use crate::touch::Touch;
 
 /// Least length of a journal: 4,000 moves of 3 bytes.
 pub const JOURNAL: usize = 12_000;
@@ -53,12 +54,13 @@ impl Replay {
         Ok(())
     }
 
-    /// Makes a move and notes it in the journal, or changes neither.
-    pub fn extend(&mut self, journal: &mut [u8], made: Move) -> Result<(), u8> {
+    /// Makes a move and notes it in the journal, or changes neither; gives what it touched.
+    pub fn extend(&mut self, journal: &mut [u8], made: Move) -> Result<Touch, u8> {
         let at = 3 * usize::from(self.state.applied);
+        let touch = Touch::of(&self.state, made);
         self.make_move(made)?;
         journal[at..at + 3].copy_from_slice(&made);
-        Ok(())
+        Ok(touch)
     }
 }
 

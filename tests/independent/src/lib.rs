@@ -1,7 +1,7 @@
 //! An independent implementation of the hand-off machine of document 01, of the
 //! journal's test at each call (document 02, No. 6), of scripted threads (No. 7),
-//! of exits that owners are refused (No. 9), of marks (No. 12) and of a ready
-//! queue for each processor (No. 13).
+//! of exits that owners are refused (No. 9), of marks (No. 12), of a ready queue for
+//! each processor (No. 13) and of the words that a move touches (No. 4).
 //!
 //! Terms of document 01 and the names used here: loaded is `current`, hand is
 //! `transit`, rank is `sequence`, seen is `observed`, standing moves are
@@ -11,6 +11,7 @@
 //! of a `Snapshot`, which is the state as fixed tables with chains.
 //!
 //! - `machine`: the state with plain queues, the start and the lines.
+//! - `touch`: which words a move reads and writes.
 //! - `record`: the state as tables with chains, its rules, both conversions.
 //! - `picture`: a snapshot's bytes, written and read.
 //! - `journal`: a lent journal's replay and test.
@@ -51,6 +52,7 @@ pub mod script;
 pub mod session;
 pub mod slips;
 pub mod spelling;
+pub mod touch;
 pub mod view;
 pub mod worked;
 

@@ -72,7 +72,7 @@ impl Program {
         }
         let (record, journal) = self.session()?;
         let changed = match command {
-            Command::Move(made) => session::make_move(record, journal, made),
+            Command::Move(made) => session::make_move(record, journal, made).answer(),
             Command::Back => session::undo(record, journal),
             _ => return Some(picture::hex(&shown(record))),
         };

@@ -9,7 +9,8 @@ use crate::journal::{self, Replay};
 use crate::machine::{Config, Move, Position, State, CREATE, EXIT, GO, LOCK};
 use crate::picture;
 use crate::record::{Record, Snapshot};
-use crate::session;
+use crate::session::{self, Step};
+use crate::touch::Touch;
 use crate::Answer;
 
 /// The bytes of a script.
@@ -88,16 +89,21 @@ pub fn start(config: Config, scripts: &[u8]) -> Answer<Record> {
 
 /// Takes a turn for processor p; refused by 10, 15, 16, 19, then as its move is, with the record
 /// handed in, the journal unchanged.
-pub fn turn(record: &Record, journal: &mut [u8], scripts: &[u8], p: u8) -> Answer<Record> {
-    record.answer(turned(record, journal, scripts, p))
+pub fn turn(record: &Record, journal: &mut [u8], scripts: &[u8], p: u8) -> Step {
+    Step::of(record, turned(record, journal, scripts, p))
 }
 
-fn turned(record: &Record, journal: &mut [u8], scripts: &[u8], p: u8) -> Result<State, u8> {
+fn turned(
+    record: &Record,
+    journal: &mut [u8],
+    scripts: &[u8],
+    p: u8,
+) -> Result<(State, Touch), u8> {
     let mut replay = journal::test(record, journal)?;
     let scripts = Scripts::read(scripts, replay.state.thread_count()).ok_or(19)?;
     let made = next_move(&replay, &scripts, p);
-    replay.extend(journal, made)?;
-    Ok(replay.state)
+    let touch = replay.extend(journal, made)?;
+    Ok((replay.state, touch))
 }
 
 /// Takes a turn for each listed processor, with the number of each in `answers` and the picture

@@ -1,14 +1,17 @@
-//! A state as tables for people: processors, mutexes, ready queues, threads by status.
+//! A state as tables for people: processors, mutexes, ready queues, threads by status. Behind the words
+//! that a move has touched stand `r` and `w`.
 
 use crate::machine::{Life, Mutex, Processor, State, Token};
+use crate::touch::{Touch, Word};
 
 /// Every line ends with a line feed.
-pub fn view(state: &State) -> String {
+pub fn view(state: &State, touch: Touch) -> String {
     let mut lines = vec![format!("moves {}", state.applied)];
     lines.extend(table(&PROCESSOR, (1..).zip(&state.processors).map(processor_cells)));
-    lines.extend(table(&MUTEX, (1..).zip(&state.mutexes).map(mutex_cells)));
-    lines.extend(table(&READY, ready_cells(state).into_iter()));
-    lines.extend(table(&STATUS, status_cells(state).into_iter()));
+    let mutexes = (1..).zip(&state.mutexes);
+    lines.extend(table(&MUTEX, mutexes.map(|(m, mutex)| mutex_cells(m, mutex, touch))));
+    lines.extend(table(&READY, ready_cells(state, touch).into_iter()));
+    lines.extend(table(&STATUS, status_cells(state, touch).into_iter()));
     lines.iter().map(|line| format!("{line}\n")).collect()
 }
 
@@ -34,7 +37,7 @@ const PROCESSOR: Columns<9> = Columns {
 };
 
 const MUTEX: Columns<5> =
-    Columns { headings: ["mutex", "count", "owner", "token", "queue"], widths: [7, 7, 7, 10, 0] };
+    Columns { headings: ["mutex", "count", "owner", "token", "queue"], widths: [7, 7, 7, 12, 0] };
 
 const READY: Columns<2> = Columns { headings: ["ready queue", "threads"], widths: [13, 0] };
 
@@ -67,28 +70,31 @@ fn processor_cells((p, here): (u8, &Processor)) -> [String; 9] {
     ]
 }
 
-fn mutex_cells((m, mutex): (u8, &Mutex)) -> [String; 5] {
+fn mutex_cells(m: u8, mutex: &Mutex, touch: Touch) -> [String; 5] {
     [
         m.to_string(),
-        mutex.count.to_string(),
+        mutex.count.to_string() + touch.mark(Word::Count(m)),
         or_none(mutex.owner),
-        token(mutex.token),
-        threads(&mutex.queue),
+        token(mutex.token) + touch.mark(Word::Token(m)),
+        threads(&mutex.queue) + touch.mark(Word::Queue(m)),
     ]
 }
 
 /// The single ready queue, or each processor's.
-fn ready_cells(state: &State) -> Vec<[String; 2]> {
-    if state.stealing == 0 {
-        return vec![["single".to_string(), threads(&state.ready[0])]];
-    }
-    (1..).zip(&state.ready).map(|(p, queue): (u8, _)| [p.to_string(), threads(queue)]).collect()
+fn ready_cells(state: &State, touch: Touch) -> Vec<[String; 2]> {
+    let name = |p: u8| match state.stealing {
+        0 => "single".to_string(),
+        _ => p.to_string(),
+    };
+    let row = |(p, queue)| [name(p), threads(queue) + touch.mark(Word::Ready(p))];
+    (1..).zip(&state.ready).map(row).collect()
 }
 
-fn status_cells(state: &State) -> Vec<[String; 2]> {
+fn status_cells(state: &State, touch: Touch) -> Vec<[String; 2]> {
     let row = |name: &str, has: &dyn Fn(u8) -> bool| {
-        let all: Vec<u8> = (1..=state.thread_count()).filter(|&thread| has(thread)).collect();
-        [name.to_string(), threads(&all)]
+        let all = (1..=state.thread_count()).filter(|&thread| has(thread));
+        let marked = all.map(|thread| format!("{thread}{}", touch.mark(Word::Birth(thread))));
+        [name.to_string(), listed(marked.collect())]
     };
     vec![
         row("new", &|thread| state.life(thread) == Life::Unborn),
@@ -118,7 +124,10 @@ pub fn token(token: Token) -> String {
 
 /// Threads in order, `-` for none.
 fn threads<'a>(list: impl IntoIterator<Item = &'a u8>) -> String {
-    let words: Vec<String> = list.into_iter().map(u8::to_string).collect();
+    listed(list.into_iter().map(u8::to_string).collect())
+}
+
+fn listed(words: Vec<String>) -> String {
     match words[..] {
         [] => "-".to_string(),
         _ => words.join(" "),

@@ -5,7 +5,7 @@
 mod asked;
 
 use asked::Session;
-use independent::course::{run, Reader};
+use independent::course::{run, without_words, Reader};
 use independent::lines::Reader as LineReader;
 use independent::picture;
 use independent::program::Program;
@@ -19,12 +19,13 @@ const HELP: &str = "\
 start P T M B    begin a session: processors, threads, mutexes, threads created at first
 start P T M B S  the same with the choice of ready queues: 0 a single one, 1 one for each processor
 move p a o       processor p: 0 go, 1 lock, 2 trylock, 3 unlock mutex o, 4 yield, 5 exit, 6 create thread o
+                 accepted, a move or a turn names the words that it read and wrote
 back             step back
 show             the picture in hexadecimal
 script k a o ..  the script of thread k: up to 6 calls, each an action and an operand
 turn p           a turn of processor p, by its thread's script
-turns p p ..     turns one after the other: for each its answer, then the picture
-view             the state as a table
+turns p p ..     turns one after the other: for each its number, then the picture
+view             the state as a table, r and w behind the words that the last move read and wrote
 chart            the moves that stand, a column for each processor
 mark HEX HEX     the mark of a picture: the machine's, then the candidate's
 mark HEX         the mark of a candidate's picture against the session's
@@ -110,11 +111,11 @@ fn script_refusals() {
         }
         for action in 1..=6 {
             for operand in [0, 1, 2, 255] {
-                assert_eq!(session.ask(format!("script {thread} {action} {operand}")), "0\n");
+                session.accepts(format!("script {thread} {action} {operand}"));
             }
         }
         for count in 0..=6 {
-            assert_eq!(session.ask(format!("script {thread}{}", pairs(count))), "0\n");
+            session.accepts(format!("script {thread}{}", pairs(count)));
         }
     }
 }
@@ -144,16 +145,16 @@ fn scripts_are_replaced() {
 #[test]
 fn scripts_during_a_session() {
     let mut session = Session::after(&["start 1 1 2 1", "script 1 4 0", "turn 1", "turn 1"]);
-    assert_eq!(session.ask("script 1 1 1 1 2"), "0\n");
-    assert_eq!(session.ask("turn 1"), "0\n");
+    session.accepts("script 1 1 1 1 2");
+    session.accepts("turn 1");
     assert!(session.ask("chart").contains("\n3     lock 2\n"));
-    assert_eq!(session.ask("back"), "0\n");
-    assert_eq!(session.ask("script 1 4 0 3 1"), "0\n");
+    session.accepts("back");
+    session.accepts("script 1 4 0 3 1");
     assert_eq!(session.ask("turn 1"), "6\n");
-    assert_eq!(session.ask("script 1 4 0 1 3"), "0\n");
+    session.accepts("script 1 4 0 1 3");
     assert_eq!(session.ask("turn 1"), "3\n");
-    assert_eq!(session.ask("script 1"), "0\n");
-    assert_eq!(session.ask("turn 1"), "0\n");
+    session.accepts("script 1");
+    session.accepts("turn 1");
     assert!(session.ask("chart").contains("\n3     exit\n"));
 }
 
@@ -164,7 +165,7 @@ fn turn_refusals() {
         session.keeps(format!("turn {p}"), "2\n");
     }
     for p in [1, 2] {
-        assert_eq!(session.ask(format!("turn {p}")), "0\n");
+        session.accepts(format!("turn {p}"));
     }
     // 3, 6 and 7 by a script; 4 and 5 never.
     let mut session = Session::after(&["start 1 1 1 1"]);
@@ -174,9 +175,9 @@ fn turn_refusals() {
             session.keeps("turn 1", &format!("{answer}\n"));
         }
     }
-    assert_eq!(session.ask("script 1"), "0\n");
-    assert_eq!(session.ask("turn 1"), "0\n");
-    assert_eq!(session.ask("turn 1"), "0\n");
+    session.accepts("script 1");
+    session.accepts("turn 1");
+    session.accepts("turn 1");
 }
 
 /// 4,000 moves: 8, with 2 before it, and one step back makes room for one turn.
@@ -198,13 +199,13 @@ fn most_moves() {
     assert_eq!(chart.lines().count(), 4_002);
     assert!(chart.ends_with("\n4000             CI2\n\n"));
     for line in ["back", "turn 2"] {
-        assert_eq!(session.ask(line), "0\n");
+        session.accepts(line);
     }
     assert_eq!(session.ask("turn 2"), "8\n");
     assert_eq!(session.ask("chart"), chart);
 }
 
-/// `turns p q ..` answers as `turn p`, `show`, `turn q`, `show`, ..
+/// `turns p q ..` answers as `turn p`, `show`, `turn q`, `show`, .., but for the words.
 #[test]
 fn turns_are_turns_and_pictures() {
     for seed in 0..150 {
@@ -220,7 +221,7 @@ fn turns_are_turns_and_pictures() {
             let turns = generator.turns(config, count);
             let one_by_one: String = turns.iter().map(|p| format!("turn {p}\nshow\n")).collect();
             let got = whole.feed((spelling::turns(&turns) + "\n").as_bytes());
-            assert_eq!(got, single.feed(one_by_one.as_bytes()));
+            assert_eq!(got, without_words(&single.feed(one_by_one.as_bytes())));
             assert_eq!(got.lines().count(), 2 * turns.len());
             let length = picture::length(config.processors, config.threads, config.mutexes);
             assert!(got.lines().skip(1).step_by(2).all(|line| line.len() == 2 * length));
@@ -228,6 +229,73 @@ fn turns_are_turns_and_pictures() {
         for line in ["view\n", "chart\n"] {
             assert_eq!(whole.feed(line.as_bytes()), single.feed(line.as_bytes()));
         }
+    }
+}
+
+/// An accepted move or turn names its words, of each kind; whatever is refused, its number alone.
+#[test]
+fn words_of_moves_and_turns() {
+    let mut session = Session::after(&["start 2 4 2 3 1", "script 1 6 4 1 2", "script 2 1 2"]);
+    for (line, answer) in [
+        ("turn 1", "0 reads birth 4 writes birth 4"),
+        ("move 1 0 0", "0 reads ready 1 writes ready 1"),
+        ("move 1 0 0", "5"),
+        ("turn 1", "0 reads none writes none"),
+        ("turn 1", "0 reads count 2 writes count 2"),
+        ("turn 2", "0 reads none writes none"),
+        ("move 2 0 0", "0 reads count 2 writes count 2"),
+        ("move 1 3 2", "0 reads none writes none"),
+        ("turn 1", "0 reads count 2 writes count 2"),
+        ("turn 1", "0 reads queue 2 writes none"),
+        ("turn 1", "0 reads none writes token 2"),
+        ("turn 2", "0 reads none writes none"),
+        ("turn 2", "0 reads queue 2 writes queue 2"),
+        ("turn 2", "0 reads token 2 writes none"),
+        ("turn 0", "2"),
+        ("move 2 7 0", "3"),
+        ("back", "0"),
+        ("back", "0"),
+        ("start 2 3 1 1 1", "0"),
+        ("turn 2", "0 reads ready 2 writes none"),
+        ("turn 2", "0 reads ready 1 writes none"),
+        ("turn 2", "0 reads ready 2 writes none"),
+        ("start 2 3 1 1", "0"),
+        ("turn 2", "0 reads ready 1 writes none"),
+        ("turn 1", "0 reads none writes none"),
+    ] {
+        assert_eq!(session.ask(line), format!("{answer}\n"), "{line}");
+    }
+}
+
+/// The marks are those of the last move that stands, whatever was asked or refused since.
+#[test]
+fn view_of_the_last_move() {
+    let mut session = Session::after(&["start 2 4 1 3"]);
+    let mut row = |line: &str, begin: &str| -> String {
+        session.ask(line);
+        let view = session.ask("view");
+        view.lines().find(|row| row.starts_with(begin)).unwrap().to_string()
+    };
+    for (line, begin, wanted) in [
+        ("show", "transit ", "transit     -"),
+        ("move 1 6 4", "transit ", "transit     4 rw"),
+        ("move 1 6 4", "transit ", "transit     4 rw"),
+        ("turn 9", "transit ", "transit     4 rw"),
+        ("script 2 1 1", "transit ", "transit     4 rw"),
+        ("start 9 9 9 9", "transit ", "transit     4 rw"),
+        ("chart", "transit ", "transit     4 rw"),
+        ("move 1 0 0", "single", "single       3 4 rw"),
+        ("turn 2", "single", "single       3 4"),
+        ("turn 2", "1      1", "1      1 rw   2      -           -"),
+        ("turns 1 2", "1      1", "1      1      2      -           -"),
+        ("back", "1      1", "1      1 rw   2      -           -"),
+        ("back", "single", "single       3 4"),
+        ("back", "single", "single       3 4 rw"),
+        ("back", "transit ", "transit     4 rw"),
+        ("back", "new", "new         4"),
+        ("back", "new", "new         4"),
+    ] {
+        assert_eq!(row(line, begin), wanted, "{line}");
     }
 }
 
@@ -243,7 +311,7 @@ fn owners_may_not_exit() {
     assert_eq!(session.ask("turns 1 3 1"), [21, 2, 21].map(|n| format!("{n}\n{picture}")).concat());
     session.keeps("move 1 5 1", "3\n");
     for line in ["turn 2", "move 1 3 1", "turn 1", "turn 1"] {
-        assert_eq!(session.ask(line), "0\n");
+        session.accepts(line);
     }
     assert!(session.ask("view").ends_with("terminated  1 2\n\n"));
     let of = |seed| run(&random_course::input(seed, 200));
@@ -261,7 +329,7 @@ fn starts_and_scripts() {
         session.keeps(line, "1\n");
     }
     for line in ["start 2 3 1 2", "turn 1", "turn 2"] {
-        assert_eq!(session.ask(line), "0\n");
+        session.accepts(line);
     }
     let exits = session.ask("view");
     assert!(exits.ends_with("terminated  1 2\n\n"), "{exits}");
@@ -269,7 +337,7 @@ fn starts_and_scripts() {
     let mut session =
         Session::after(&["start 1 2 1 2", "script 2 4 0", "start 1 1 1 1", "start 1 2 1 2"]);
     for line in ["turn 1", "turn 1", "turn 1", "turn 1"] {
-        assert_eq!(session.ask(line), "0\n");
+        session.accepts(line);
     }
     assert!(session.ask("chart").contains("\n4     exit\n"));
 }
@@ -299,7 +367,7 @@ fn longest_lines() {
     }
 }
 
-/// The lines of the plain program are answered alike, on all its random sessions too.
+/// The lines of the plain program are answered alike but for the words, on all its random sessions too.
 #[test]
 fn plain_lines_alike() {
     for seed in 0..60 {
@@ -311,7 +379,7 @@ fn plain_lines_alike() {
         let (mut plain, mut course) = (LineReader::<Program>::default(), Reader::default());
         for line in input.split(|&byte| byte == b'\n').filter(is_plain) {
             let line = [line, b"\n"].concat();
-            assert_eq!(course.feed(&line), plain.feed(&line));
+            assert_eq!(without_words(&course.feed(&line)), plain.feed(&line));
         }
     }
 }
@@ -350,7 +418,9 @@ fn process_flushes() {
     };
     ask(b"help\n", HELP);
     ask(b"start 1 1 1 1\nscr", "0\n");
-    ask(b"ipt 1 1 1\nturn 1\nchart\ntur", "0\n0\nmove  1          changes\n1     lock 1\n\n");
+    let words = "0 reads none writes none\n";
+    let chart = "move  1          changes\n1     lock 1\n\n";
+    ask(b"ipt 1 1 1\nturn 1\nchart\ntur", &format!("0\n{words}{chart}"));
     stdin.write_all(b"n 2").unwrap();
     drop(stdin);
     let mut rest = String::new();

@@ -1,5 +1,5 @@
 //! What `view` and `chart` show: tables as they must be to the byte, and over random sessions that
-//! a state can be read back from its view and the moves and queues from their chart.
+//! a state and the words touched can be read back from a view, the moves and queues from their chart.
 
 use independent::chart::chart;
 use independent::course::run;
@@ -10,6 +10,7 @@ use independent::machine::{
 };
 use independent::random::{Driver, Rates};
 use independent::random_course;
+use independent::touch::{Touch, Word};
 use independent::view::view;
 use independent::worked::{self, Worked};
 use std::collections::{BTreeSet, VecDeque};
@@ -18,14 +19,14 @@ use std::collections::{BTreeSet, VecDeque};
 fn view_of_k5() {
     let k5 = worked::k5().front(13);
     assert_eq!(
-        view(&k5.state()),
+        view(&k5.state(), Touch::reads(Word::Queue(1))),
         "\
 moves 13
 processor  line  current  transit  mutex  observed  sequence  answer  probe
 1          App   1        -        -      -         1         none    0
 2          L8    -        -        1      (1,1)     0         none    0
-mutex  count  owner  token     queue
-1      1      -      (1,1)     2
+mutex  count  owner  token       queue
+1      1      -      (1,1)       2 r
 ready queue  threads
 single       -
 status      threads
@@ -67,16 +68,16 @@ fn view_of_ready_queues() {
         token: Token { processor: 3, sequence: 4_000 },
     };
     assert_eq!(
-        view(&state),
+        view(&state, Touch::NONE),
         "\
 moves 4000
 processor  line  current  transit  mutex  observed  sequence  answer  probe
 1          CI2   -        -        -      -         0         none    2
 2          App   2        -        -      -         0         true    0
 3          GT3   3        -        2      (8,4000)  4000      false   0
-mutex  count  owner  token     queue
-1      0      -      -         -
-2      33     10     (3,4000)  11 5 8
+mutex  count  owner  token       queue
+1      0      -      -           -
+2      33     10     (3,4000)    11 5 8
 ready queue  threads
 1            4 7 10
 2            -
@@ -90,6 +91,54 @@ transit     -
 terminated  1
 "
     );
+}
+
+/// The one row that differs where a move has touched a word.
+fn marked(state: &State, touch: Touch) -> String {
+    let (plain, marked) = (view(state, Touch::NONE), view(state, touch));
+    let differs = |(one, other): &(&str, &str)| one != other;
+    let rows: Vec<_> = plain.lines().zip(marked.lines()).filter(differs).collect();
+    assert_eq!((rows.len(), plain.lines().count()), (1, marked.lines().count()), "{marked}");
+    rows[0].1.to_string()
+}
+
+/// Each word with each mark, to the byte; columns and other rows stay.
+#[test]
+fn view_of_touched_words() {
+    let mut state = State::start(Config::new(2, 6, 2, 5));
+    state.processors[1].current = 0;
+    state.processors[1].position = Position::CI2;
+    state.mutexes[0] =
+        Mutex { count: 2, queue: VecDeque::from([2, 3]), owner: 1, token: Token::NONE };
+    state.ready[0] = VecDeque::from([5, 4]);
+    for (touch, row) in [
+        (Touch::changes(Word::Count(1)), "1      2 rw   1      -           2 3"),
+        (Touch::reads(Word::Count(1)), "1      2 r    1      -           2 3"),
+        (Touch::changes(Word::Token(1)), "1      2      1      - rw        2 3"),
+        (Touch::reads(Word::Token(1)), "1      2      1      - r         2 3"),
+        (Touch::writes(Word::Token(1)), "1      2      1      - w         2 3"),
+        (Touch::changes(Word::Queue(1)), "1      2      1      -           2 3 rw"),
+        (Touch::reads(Word::Queue(1)), "1      2      1      -           2 3 r"),
+        (Touch::reads(Word::Queue(2)), "2      0      -      -           - r"),
+        (Touch::changes(Word::Queue(2)), "2      0      -      -           - rw"),
+        (Touch::changes(Word::Ready(1)), "single       5 4 rw"),
+        (Touch::reads(Word::Ready(1)), "single       5 4 r"),
+        (Touch::changes(Word::Birth(6)), "new         6 rw"),
+        (Touch::changes(Word::Birth(2)), "waiting     2 rw 3"),
+        (Touch::changes(Word::Birth(4)), "ready       4 rw 5"),
+    ] {
+        assert_eq!(marked(&state, touch), row);
+    }
+    state.mutexes[0].token = Token { processor: 2, sequence: 3_999 };
+    let row = "1      2      1      (2,3999) w  2 3";
+    assert_eq!(marked(&state, Touch::writes(Word::Token(1))), row);
+    state.mutexes[0].count = 33;
+    let row = "1      33 rw  1      (2,3999)    2 3";
+    assert_eq!(marked(&state, Touch::changes(Word::Count(1))), row);
+    state.stealing = 1;
+    state.ready.push(VecDeque::new());
+    assert_eq!(marked(&state, Touch::reads(Word::Ready(2))), "2            - r");
+    assert_eq!(marked(&state, Touch::changes(Word::Ready(1))), "1            5 4 rw");
 }
 
 #[test]
@@ -193,7 +242,7 @@ fn no_moves() {
     // A step back takes its row away.
     assert_eq!(
         run(b"start 1 1 1 1\nmove 1 4 0\nback\nchart"),
-        "0\n0\n0\nmove  1          changes\n\n"
+        "0\n0 reads none writes none\n0\nmove  1          changes\n\n"
     );
 }
 
@@ -228,11 +277,18 @@ fn token(word: &str) -> Token {
     Token { processor: or_none(processor), sequence: sequence.parse().unwrap() }
 }
 
+const MARKS: [&str; 3] = ["r", "w", "rw"];
+
+/// A value and its mark, which may be missing.
+fn parted(cell: &str) -> (&str, &str) {
+    let last = cell.rsplit_once(' ').filter(|(_, mark)| MARKS.contains(mark));
+    last.unwrap_or((cell, ""))
+}
+
+/// Threads without their marks.
 fn threads(words: &str) -> VecDeque<u8> {
-    match words {
-        "-" => VecDeque::new(),
-        _ => words.split(' ').map(or_none).collect(),
-    }
+    let words = words.split(' ').filter(|word| !MARKS.contains(word));
+    words.filter(|&word| word != "-").map(or_none).collect()
 }
 
 fn position(name: &str) -> Position {
@@ -258,6 +314,9 @@ fn cut(row: &str, widths: &[usize]) -> Vec<String> {
     cells
 }
 
+/// The widths of the mutexes' columns.
+const MUTEX: [usize; 4] = [7, 7, 7, 12];
+
 /// The state that a view tells.
 fn state_of(view: &str) -> State {
     let applied = view.lines().next().and_then(|line| line.strip_prefix("moves ")).unwrap();
@@ -276,12 +335,12 @@ fn state_of(view: &str) -> State {
         }
     });
     let mutexes = rows(view, "mutex  ", "ready queue  ").into_iter().map(|row| {
-        let cells = cut(row, &[7, 7, 7, 10]);
+        let cells = cut(row, &MUTEX);
         Mutex {
-            count: cells[1].parse().unwrap(),
+            count: parted(&cells[1]).0.parse().unwrap(),
             queue: threads(&cells[4]),
             owner: or_none(&cells[2]),
-            token: token(&cells[3]),
+            token: token(parted(&cells[3]).0),
         }
     });
     let ready: Vec<Vec<String>> =
@@ -293,6 +352,42 @@ fn state_of(view: &str) -> State {
         stealing: u8::from(ready[0][0] != "single"),
         ready: ready.iter().map(|cells| threads(&cells[1])).collect(),
         applied: applied.parse().unwrap(),
+    }
+}
+
+/// The words that a view marks, each with its mark.
+fn marks_of(view: &str) -> Vec<(Word, String)> {
+    let mut all = Vec::new();
+    for (m, row) in (1..).zip(rows(view, "mutex  ", "ready queue  ")) {
+        let cells = cut(row, &MUTEX);
+        all.push((Word::Count(m), parted(&cells[1]).1.to_string()));
+        all.push((Word::Token(m), parted(&cells[3]).1.to_string()));
+        all.push((Word::Queue(m), parted(&cells[4]).1.to_string()));
+    }
+    for (p, row) in (1..).zip(rows(view, "ready queue  ", "status  ")) {
+        all.push((Word::Ready(p), parted(&cut(row, &[13])[1]).1.to_string()));
+    }
+    for row in rows(view, "status  ", "") {
+        let cells = cut(row, &[12]);
+        let words: Vec<&str> = cells[1].split(' ').collect();
+        for pair in words.windows(2).filter(|pair| MARKS.contains(&pair[1])) {
+            all.push((Word::Birth(or_none(pair[0])), pair[1].to_string()));
+        }
+    }
+    all.retain(|(_, mark)| !mark.is_empty());
+    all
+}
+
+/// The marks that a view must have.
+fn marks(touch: Touch) -> Vec<(Word, String)> {
+    match (touch.read, touch.written) {
+        (Word::None, Word::None) => vec![],
+        (read, Word::None) => vec![(read, "r".to_string())],
+        (Word::None, written) => vec![(written, "w".to_string())],
+        (read, written) => {
+            assert_eq!(read, written);
+            vec![(read, "rw".to_string())]
+        }
     }
 }
 
@@ -405,16 +500,18 @@ fn moves_of(config: Config, chart: &str) -> Vec<Move> {
 
 /// The moves of a random session, and its view checked on the way.
 fn random_moves(driver: &mut Driver, config: Config) -> Vec<Move> {
-    let mut state = State::start(config);
+    let (mut state, mut touch) = (State::start(config), Touch::NONE);
     let mut moves = Vec::new();
     for count in 0..400 {
-        if count % 8 == 0 {
-            let view = view(&state);
+        if count % 5 == 0 {
+            let view = view(&state, touch);
             assert!(is_tidy(&(view.clone() + "\n")), "{view}");
             assert_eq!(state_of(&view), state);
+            assert_eq!(marks_of(&view), marks(touch));
             check_statuses(&view, &state);
         }
         let made = driver.likely_move(&state);
+        touch = Touch::of(&state, made);
         state.try_move(made).unwrap();
         moves.push(made);
     }

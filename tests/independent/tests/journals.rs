@@ -42,11 +42,11 @@ fn given(record: &Record, journal: &[u8]) -> Option<Record> {
 }
 
 fn move_number(record: &Record, journal: &[u8], made: Move) -> u8 {
-    called(record, journal, |journal| session::make_move(record, journal, made))
+    called(record, journal, |journal| session::make_move(record, journal, made).answer())
 }
 
 fn turn_number(record: &Record, journal: &[u8], scripts: &[u8], p: u8) -> u8 {
-    called(record, journal, |journal| script::turn(record, journal, scripts, p))
+    called(record, journal, |journal| script::turn(record, journal, scripts, p).answer())
 }
 
 /// Calls each entry point with a record and a journal of the least length; all give the number of

@@ -348,8 +348,8 @@ fn plain_session_answers_alike() {
             let state = record.state().unwrap();
             let (answer, number) = match driver.next_call(&state) {
                 Call::Move(made) => {
-                    let answer = session::make_move(&record, &mut journal, made);
-                    (answer, plain.make_move(made))
+                    let step = session::make_move(&record, &mut journal, made);
+                    (step.answer(), plain.make_move(made))
                 }
                 Call::Undo => (session::undo(&record, &journal), plain.undo()),
             };

@@ -17,7 +17,7 @@ use independent::worked::{Worked, FILLER};
 fn number(worked: &Worked, made: Move) -> u8 {
     let (record, mut journal) = (worked.record(), worked.journal());
     let answer = session::make_move(&record, &mut journal, made);
-    if answer.is_accepted() {
+    if answer.number == 0 {
         let [p, action, operand] = made;
         assert_eq!(answer.value, worked.clone().call(p, action, operand).record());
     } else {
@@ -34,7 +34,7 @@ fn exit(worked: &Worked, p: u8) -> u8 {
     let turn = script::turn(&record, &mut journal, &scripts, p);
     let at_app = worked.state().processor(p).position == Position::App;
     assert_eq!(turn.number, if at_app { exit } else { 0 });
-    assert!(turn.is_accepted() || turn.value == record && journal == worked.journal());
+    assert!(turn.number == 0 || turn.value == record && journal == worked.journal());
     exit
 }
 
@@ -242,7 +242,7 @@ fn order_at_turns() {
     let turn = |scripts: &[u8], p| {
         let mut lent = journal.clone();
         let answer = script::turn(&record, &mut lent, scripts, p);
-        assert!(answer.is_accepted() || answer.value == record && lent == journal);
+        assert!(answer.number == 0 || answer.value == record && lent == journal);
         answer.number
     };
     assert_eq!(turn(&with([EXIT, 0]), 1), 21);

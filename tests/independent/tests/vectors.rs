@@ -1,5 +1,6 @@
 //! The stored vectors are those that the generator writes, and the program gives their outputs.
 
+use independent::course::without_words;
 use std::collections::BTreeMap;
 use std::fs;
 use std::io::Write;
@@ -38,8 +39,8 @@ fn stored_vectors_are_current() {
     assert!(old.values().map(Vec::len).sum::<usize>() < 5_200_000);
 }
 
-/// Runs a program on the stored sessions of a folder.
-fn gives_stored_outputs(program: &str, folder: &str) {
+/// Runs a program on the stored sessions of a folder; its outputs are compared as `read` gives them.
+fn gives_stored_outputs(program: &str, folder: &str, read: fn(&str) -> String) {
     let all = files(&stored());
     let is_input = |name: &str| name.starts_with(folder) && name.ends_with(".in");
     for (name, input) in all.iter().filter(|(name, _)| is_input(name)) {
@@ -50,18 +51,19 @@ fn gives_stored_outputs(program: &str, folder: &str) {
         let writer = std::thread::spawn(move || stdin.write_all(&input).unwrap());
         let output = child.wait_with_output().unwrap();
         writer.join().unwrap();
-        assert!(output.stdout == all[&name.replace(".in", ".out")], "{name}");
+        let output = read(std::str::from_utf8(&output.stdout).unwrap());
+        assert!(output.as_bytes() == all[&name.replace(".in", ".out")], "{name}");
     }
 }
 
 #[test]
 fn program_gives_stored_outputs() {
-    gives_stored_outputs(env!("CARGO_BIN_EXE_program"), "sessions/");
+    gives_stored_outputs(env!("CARGO_BIN_EXE_program"), "sessions/", str::to_string);
 }
 
-/// Those of the plain program too, whose lines it answers alike.
+/// Those of the plain program too, whose lines it answers alike but for the words.
 #[test]
 fn course_gives_stored_outputs() {
-    gives_stored_outputs(env!("CARGO_BIN_EXE_course"), "course/");
-    gives_stored_outputs(env!("CARGO_BIN_EXE_course"), "sessions/");
+    gives_stored_outputs(env!("CARGO_BIN_EXE_course"), "course/", str::to_string);
+    gives_stored_outputs(env!("CARGO_BIN_EXE_course"), "sessions/", without_words);
 }

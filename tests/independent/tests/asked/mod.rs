@@ -8,13 +8,18 @@ pub struct Session {
 }
 
 impl Session {
-    /// After these lines, each of which is answered by 0.
+    /// After these lines, each of which is accepted.
     pub fn after(lines: &[&str]) -> Session {
         let mut session = Session { reader: Reader::default() };
-        for line in lines {
-            assert_eq!(session.ask(line), "0\n", "{line}");
-        }
+        lines.iter().for_each(|line| session.accepts(line));
         session
+    }
+
+    /// The answer's number is 0.
+    pub fn accepts(&mut self, line: impl AsRef<[u8]>) {
+        let answer = self.ask(&line);
+        let line = String::from_utf8_lossy(line.as_ref());
+        assert_eq!(answer.split_whitespace().next(), Some("0"), "{line}");
     }
 
     pub fn ask(&mut self, line: impl AsRef<[u8]>) -> String {
@@ -30,8 +35,8 @@ impl Session {
             all.push(self.ask(format!("turn {p}")) + &self.ask("show"));
         }
         for answer in all.clone().iter().skip(3) {
-            if answer.starts_with("0\n") {
-                assert_eq!(self.ask("back"), "0\n");
+            if answer.starts_with("0 ") {
+                self.accepts("back");
             }
         }
         all

@@ -3,8 +3,9 @@
 //! A command is known by its word's first letter. Each of the first group prints a line.
 //!
 //! - `start P T M B`, with a fifth number or without, `move p a o`, `back`: the refusal, whether a
-//!   field of the record changed and whether a byte of the journal did. A start's record is taken,
-//!   refused or not.
+//!   field of the record changed and whether a byte of the journal did; a move then the word that it
+//!   read and the one that it wrote, kind and number each. A start's record is taken, refused or not.
+//! - `xtouch`: the words of the last standing move, in the same way.
 //! - `front`: the refusal, the front's length and its bytes.
 //! - `picture`, or `picture n` for a buffer of n bytes: the picture or its refusal, and B.
 //! - `queue t`: the turns ahead of thread t, `-` where it does not wait, `r` before a refusal.
@@ -20,10 +21,10 @@
 //!
 //! Of scripted threads, over a buffer of scripts and a list of turns, at first zero:
 //!
-//! - `init P T M B`, with a fifth number or without: a scripted start; `turn p`: a turn. Both print
+//! - `init P T M B`, with a fifth number or without: a scripted start; `turn p`: a turn. They print
 //!   what a start and a move do.
 //! - `drive n a q`: a class of the list's first n turns, lent a bytes of the answers and q of the
-//!   pictures. It prints what a move does, and numbers that stand for all answers and pictures.
+//!   pictures. It prints what a start does, and numbers that stand for all answers and pictures.
 //! - `edit i a b c`: bytes i to i + 2 of the scripts become a, b, c. `order i a b c`: those of the
 //!   list do.
 //! - `use n`: so many of the scripts' bytes are lent from now on.
@@ -35,7 +36,8 @@ use independent::machine::{Config, Token};
 use independent::picture;
 use independent::record::{MutexRow, ProcessorRow, Record, Snapshot, ThreadRow};
 use independent::script;
-use independent::session::{self, ahead, Ahead};
+use independent::session::{self, ahead, Ahead, Step};
+use independent::touch::Touch;
 use independent::Answer;
 use std::fmt::Write;
 
@@ -206,6 +208,11 @@ fn edit(bytes: &mut [u8], at: u16, new: [u8; 3]) {
     bytes[usize::from(at)..][..3].copy_from_slice(&new);
 }
 
+/// The bytes of a touch.
+fn numbers(touch: Touch) -> String {
+    touch.bytes().map(|byte| byte.to_string()).join(" ")
+}
+
 /// What scripted threads need: how many bytes of the scripts are lent, and the four buffers.
 struct Scripted {
     used: usize,
@@ -287,6 +294,13 @@ impl Runner {
         format!("{number} {record} {journal}")
     }
 
+    /// The same of a move or a turn, and what it touched.
+    fn report_step(&mut self, step: Option<Step>, journal: &[u8]) {
+        let touch = numbers(step.map_or(Touch::NONE, |step| step.touch));
+        let report = self.taken(step.map(Step::answer), journal);
+        self.line(format_args!("{report} {touch}"));
+    }
+
     fn start(&mut self, config: Config) {
         let journal = self.journal.clone();
         self.report(Some(session::start(config)), &journal);
@@ -304,8 +318,8 @@ impl Runner {
         let lent = &mut self.journal[..self.lent];
         let scripts = &self.scripted.scripts[..self.scripted.used];
         let record = self.fields.record();
-        let answer = record.map(|record| script::turn(&record, lent, scripts, p));
-        self.report(answer, &before);
+        let step = record.map(|record| script::turn(&record, lent, scripts, p));
+        self.report_step(step, &before);
     }
 
     fn drive(&mut self, [turns, answers, pictures]: [usize; 3]) {
@@ -331,8 +345,15 @@ impl Runner {
     fn make_move(&mut self, made: [u8; 3]) {
         let before = self.journal.clone();
         let lent = &mut self.journal[..self.lent];
-        let answer = self.fields.record().map(|record| session::make_move(&record, lent, made));
-        self.report(answer, &before);
+        let step = self.fields.record().map(|record| session::make_move(&record, lent, made));
+        self.report_step(step, &before);
+    }
+
+    fn last_touch(&mut self) {
+        let lent = &self.journal[..self.lent];
+        let record = self.fields.record();
+        let touch = record.map_or(Touch::NONE, |record| session::last_touch(&record, lent));
+        self.line(format_args!("{}", numbers(touch)));
     }
 
     fn sweep(&mut self, raise: u8, made: [u8; 3]) {
@@ -412,6 +433,7 @@ impl Runner {
             b's' => self.start(config()),
             b'm' => self.make_move([byte(0), byte(1), byte(2)]),
             b'b' => self.undo(),
+            b'x' => self.last_touch(),
             b'f' => self.front(),
             b'p' => self.picture(numbers.first().map_or(296, |&n| usize::from(n))),
             b'q' => self.queue(byte(0)),
