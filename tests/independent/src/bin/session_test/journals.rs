@@ -61,7 +61,7 @@ fn counts(w: &mut Writer) {
         w.s.tried(&format!("{next}c {APPLIED} {}\n", count + 1), made);
         w.all(&["# its last move is missing", "noise 9"]);
         w.s.played(&worked.front(count - 1));
-        w.all(&["recall", "b", "hash"]);
+        w.all(&["recall", "x", "b", "hash"]);
         let [p, a, o] = made;
         w.all(&[&format!("m {p} {a} {o}"), &format!("t {p}"), "hash"]);
     }
@@ -72,9 +72,9 @@ fn lent_another(w: &mut Writer, one: &Worked, other: &Worked, [p, a, o]: Move) {
     w.s.played(one);
     w.say("keep");
     w.s.played(other);
-    w.all(&["recall", "front", "b", "p", "recall", "hash"]);
+    w.all(&["recall", "x", "front", "b", "x", "p", "recall", "hash"]);
     w.all(&[&format!("t {p}"), "p", "front", "b", &format!("m {p} {a} {o}"), "p", "front"]);
-    w.all(&["t 1", "b", "b", "b", "p", "hash"]);
+    w.all(&["t 1", "x", "b", "x", "b", "x", "b", "p", "hash"]);
 }
 
 /// Journals of other sessions, first those that give another record.
@@ -157,7 +157,7 @@ fn order(w: &mut Writer) {
     for length in LENGTHS {
         w.s.lend(length);
         for (born, edit) in [2, 0].into_iter().flat_map(|born| edits.map(|edit| (born, edit))) {
-            for call in ["m 9 9 9", "m 1 0 0", "t 9", "t 1"] {
+            for call in ["m 9 9 9", "m 1 0 0", "t 9", "t 1", "x"] {
                 w.s.edited(&format!("c {BORN} {born}\n{edit}"), call);
             }
         }
@@ -177,7 +177,7 @@ fn k10(w: &mut Writer) {
     for length in LENGTHS {
         w.s.lend(length);
         for call in ["m 1 0 0", "t 1"] {
-            w.all(&[call, "p", "hash", call, "hash", "b", "p", "a"]);
+            w.all(&["x", call, "x", "p", "hash", call, "hash", "b", "p", "a"]);
         }
     }
     w.say("# what stands past them, a move edited, a move less and more");
@@ -208,7 +208,7 @@ fn most_moves(w: &mut Writer) {
                 w.s.raw(edit);
                 calls_at_most(w.s, p, t, m);
                 turns_at_most(w, p, t, m);
-                w.say("a");
+                w.all(&["x", "a"]);
             }
         }
     }

@@ -21,7 +21,7 @@ fn by_each_line(w: &mut Writer, stealing: u8) {
         w.turns(&[p]);
         w.order(&[p, p, 0]);
         w.drive(config, 3);
-        w.all(&["p", "front", "hash"]);
+        w.all(&["p", "x", "front", "hash"]);
         w.s.make([p, UNLOCK, 1]);
         for _ in 1..owning.unlocks().len() {
             w.s.make([p, EXIT, 0]);
@@ -166,7 +166,7 @@ fn old_records(w: &mut Writer) {
         w.say(&format!("# 16: {}", old.name));
         w.say("noise 21");
         load_old(w.s, &old);
-        w.all(&["p", "front", "b", "m 1 0 0", "m 1 4 0", "m 0 5 0", "t 1"]);
+        w.all(&["p", "x", "front", "b", "m 1 0 0", "m 1 4 0", "m 0 5 0", "t 1"]);
         w.drive(config, 2);
         (1..=config.threads).for_each(|thread| w.say(&format!("q {thread}")));
         w.all(&["hash", "# its moves up to the exit, and the exit"]);

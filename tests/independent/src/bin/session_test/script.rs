@@ -78,9 +78,11 @@ impl Script {
         self.all(&[call, "a"]);
     }
 
-    /// After an edit a step back, a move and its processor's turn, each from what was kept.
+    /// After an edit the last move's words, a step back, a move and its processor's turn, each from
+    /// what was kept.
     pub fn tried(&mut self, edit: &str, [p, a, o]: Move) {
-        for call in ["b".to_string(), format!("m {p} {a} {o}"), format!("t {p}")] {
+        let calls = ["x".to_string(), "b".to_string(), format!("m {p} {a} {o}"), format!("t {p}")];
+        for call in calls {
             self.edited(edit, &call);
         }
     }
@@ -115,7 +117,7 @@ fn starts(s: &mut Script) {
     s.say("# K1, K2, K3");
     for (p, b) in [(8, 32), (9, 32), (8, 0)] {
         s.start(Config::new(p, 32, 8, b));
-        s.all(&["picture", "move 1 0 0", "move 1 4 0", "back", "front"]);
+        s.all(&["picture", "xtouch", "move 1 0 0", "xtouch", "move 1 4 0", "back", "front"]);
     }
     s.say("# 1 at its boundaries");
     for p in [0, 1, 8, 9, 255] {
@@ -142,8 +144,8 @@ fn starts(s: &mut Script) {
     }
 }
 
-/// A session with its pictures, each move after what is refused by 4 or 5 there, then back to
-/// its start.
+/// A session with its pictures and words, each move after what is refused by 4 or 5 there, then back
+/// to its start.
 fn there_and_back(s: &mut Script, name: &str, worked: &Worked) {
     writeln!(s.0, "# {name}").unwrap();
     s.start(worked.config);
@@ -156,18 +158,19 @@ fn there_and_back(s: &mut Script, name: &str, worked: &Worked) {
         } else {
             calls(p).into_iter().for_each(|call| s.make(call));
         }
+        s.say("x");
         s.make(made);
-        s.say("p");
+        s.all(&["x", "p"]);
         state.try_move(made).expect("worked moves are accepted");
     }
     s.all(&["front", "hash"]);
     for left in (0..worked.moves.len()).rev() {
-        s.say("b");
+        s.all(&["b", "x"]);
         if left % 3 == 0 {
             s.say("p");
         }
     }
-    s.all(&["b", "front", "hash"]);
+    s.all(&["b", "x", "front", "hash"]);
 }
 
 /// Creates, yields and exits.
@@ -219,7 +222,7 @@ fn worked_sessions(s: &mut Script) {
     there_and_back(s, "threads that join their own queues", &worked::own_queues());
     s.say("# 16: no moves give this record, at L8");
     s.load(&worked::k8_record());
-    s.all(&["picture", "move 2 0 0", "turn 2", "picture", "front", "back"]);
+    s.all(&["picture", "x", "move 2 0 0", "turn 2", "picture", "front", "back"]);
     s.say("# K9");
     s.played(&Worked::new(Config::new(2, 2, 1, 2)).call(1, LOCK, 1).go(1, 1));
     s.all(&["move 2 3 1", "picture", "move 1 3 1", "picture"]);
@@ -227,13 +230,13 @@ fn worked_sessions(s: &mut Script) {
     for applied in [1, MOST - 1, MOST, MOST + 1] {
         s.say("noise 3");
         s.load(&worked::k10_record(applied));
-        s.all(&["picture", "move 2 0 0", "turn 2", "picture", "hash"]);
+        s.all(&["picture", "x", "move 2 0 0", "turn 2", "picture", "hash"]);
     }
     s.say("# Run");
     for length in [JOURNAL, JOURNAL - 1] {
         s.start(Config::new(1, 1, 1, 1));
         s.lend(length);
-        s.all(&["move 1 1 1", "front", "hash"]);
+        s.all(&["move 1 1 1", "x", "front", "hash"]);
     }
     s.lend(JOURNAL + 1);
 }
@@ -343,7 +346,7 @@ fn every_move(s: &mut Script) {
     for (worked, less) in less {
         for less in less {
             s.played(&worked.front(worked.moves.len() - less));
-            s.all(&["keep", "p", "p 0"]);
+            s.all(&["keep", "p", "p 0", "x"]);
             for p in 1..=worked.config.processors {
                 s.try_move([p, GO, 0]);
                 calls(p).into_iter().for_each(|call| s.try_move(call));
@@ -361,7 +364,7 @@ fn steps_back_with_none(s: &mut Script) {
         s.start(config);
         for length in LENGTHS {
             s.lend(length);
-            s.all(&["back", "front"]);
+            s.all(&["back", "front", "x"]);
         }
         s.say("keep");
         for born in [0, u16::from(config.threads) + 1] {
@@ -372,10 +375,10 @@ fn steps_back_with_none(s: &mut Script) {
     s.say("# nothing applied, and yet not the start's state");
     s.played(&worked::k5());
     s.change(APPLIED, 0);
-    s.all(&["back", "move 1 1 1", "turn 1", "front", "back"]);
+    s.all(&["x", "back", "move 1 1 1", "turn 1", "front", "back"]);
 }
 
-/// 10 for move, step back and front, before every other number.
+/// 10 for move, step back and front, before every other number, and no words.
 fn short_journals(s: &mut Script) {
     s.say("# 10");
     let k7 = worked::k7();
@@ -387,12 +390,12 @@ fn short_journals(s: &mut Script) {
         for made in [[1, LOCK, 1], [1, GO, 0], [9, 9, 9], [1, UNLOCK, 1]] {
             s.try_move(made);
         }
-        s.all(&["front", "back", "front", "hash", "again"]);
+        s.all(&["x", "front", "back", "x", "front", "hash", "again"]);
         for (field, value) in [(BORN, 0), (APPLIED, 0), (APPLIED, MOST), (processor(0, 0), 1)] {
             s.change(field, value);
             s.try_move([9, 9, 9]);
             s.change(field, value);
-            s.say("back");
+            s.all(&["x", "back"]);
             if value != MOST {
                 s.say("front");
             }
@@ -448,8 +451,8 @@ fn damages(fields: &Fields, i: usize, few: bool) -> Vec<u16> {
     values
 }
 
-/// 15 and 16: each field of a record changed, then a step back, the front, the picture, turns
-/// ahead, a move and a turn. With more threads or mutexes, or with the other choice of ready queues
+/// 15 and 16: each field of a record changed, then the last move's words, a step back, the front, the
+/// picture, turns ahead, a move, a turn and the words again. With more threads or mutexes, or with the other choice of ready queues
 /// where none was used, the same moves give the record.
 fn damaged(s: &mut Script, name: &str, record: &Record, made: Move, few: bool) {
     writeln!(s.0, "# 15, 16: fields of {name}").unwrap();
@@ -459,7 +462,7 @@ fn damaged(s: &mut Script, name: &str, record: &Record, made: Move, few: bool) {
     let looks = if few { "p\nq 1\n" } else { "p\np 0\nq 0\nq 1\nq 33\n" };
     for i in 0..FIELDS {
         for value in damages(&fields, i, few) {
-            write!(s.0, "c {i} {value}\nb\nf\n{looks}m {p} {a} {o}\nt {p}\na\n").unwrap();
+            write!(s.0, "c {i} {value}\nx\nb\nf\n{looks}m {p} {a} {o}\nt {p}\nx\na\n").unwrap();
         }
     }
     s.say("hash");
@@ -521,7 +524,7 @@ fn damaging_steps(s: &mut Script) {
             s.change(thread(2, 1), 1);
         }
         let calls = [format!("move {p} 0 0"), format!("turn {p}")];
-        s.all(&["picture", &calls[0], &calls[1], "front", "hash"]);
+        s.all(&["picture", &calls[0], &calls[1], "x", "front", "hash"]);
     }
 }
 
@@ -558,6 +561,9 @@ fn random_sessions(s: &mut Script) {
                     }
                 }
             }
+            if count % 3 == 0 {
+                s.say("x");
+            }
             if count % 25 == 0 {
                 s.say("p");
             }
@@ -582,7 +588,7 @@ fn longest(s: &mut Script) {
         }
         s.make(made);
         if count % 500 == 0 {
-            s.all(&["p", "h"]);
+            s.all(&["p", "h", "x"]);
         }
     }
     s.say("hash");
@@ -644,7 +650,7 @@ fn full(s: &mut Script) {
     s.say("keep");
     for length in LENGTHS {
         s.lend(length);
-        s.all(&["move 1 0 0", "back", "hash", "again"]);
+        s.all(&["x", "move 1 0 0", "back", "hash", "again"]);
     }
 }
 

@@ -87,7 +87,7 @@ fn order_at_starts(w: &mut Writer) {
     }
 }
 
-/// 10, 15, 16, 19, 2, 3 at a turn.
+/// 10, 15, 16, 19, 2, 3 at a turn; no words in the first three.
 fn order_at_turns(w: &mut Writer) {
     w.say("# 10, 15, 16, 19, 2, 3, 6");
     w.say("noise 11");
@@ -104,7 +104,7 @@ fn order_at_turns(w: &mut Writer) {
                     w.say(&format!("c {APPLIED} {applied}"));
                     w.say(&format!("c {BORN} {born}"));
                     w.turns(&[p]);
-                    w.say("a");
+                    w.all(&["x", "a"]);
                 }
             }
         }
@@ -128,18 +128,21 @@ fn taken(w: &mut Writer, name: &str, config: Config, scripts: &[&[Call]], turns:
     w.say("keep");
     for (count, &p) in (1..).zip(turns) {
         w.turns(&[p]);
+        if count % 3 == 0 {
+            w.say("x");
+        }
         if count % 8 == 0 {
             w.say("p");
         }
     }
-    w.all(&["p", "front", "hash"]);
-    w.all(&["back", "back", "back"]);
+    w.all(&["p", "x", "front", "hash"]);
+    w.all(&["back", "x", "back", "x", "back", "x"]);
     w.turns(&turns[..3]);
     w.all(&["p", "hash", "a"]);
     w.say("vary 3");
     w.order(turns);
     w.drive(config, turns.len());
-    w.all(&["p", "front", "hash"]);
+    w.all(&["p", "x", "front", "hash"]);
 }
 
 fn next_calls(w: &mut Writer) {
@@ -240,7 +243,7 @@ fn journals(w: &mut Writer) {
                 w.s.write(at, byte);
             }
             w.turns(&[p]);
-            w.all(&["front", "a"]);
+            w.all(&["x", "front", "a"]);
         }
         for &(at, byte) in edit {
             w.s.write(at, byte);
@@ -355,6 +358,7 @@ fn random_classes(w: &mut Writer) {
             w.generate(10 * seed + part, p + generator.between(0, 1));
             w.drive(config, turns);
             w.all(&["p", "hash"]);
+            w.say("x");
             match part % 3 {
                 0 => w.all(&["back", "back", "back"]),
                 1 => w.turns(&[1, 2, 1]),
@@ -389,6 +393,7 @@ fn at_the_end(w: &mut Writer) {
     }
     for length in LENGTHS {
         w.s.lend(length);
+        w.say("x");
         w.turns(&[2]);
         w.drive(config, 3);
         w.all(&["hash", "again"]);
