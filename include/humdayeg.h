@@ -101,6 +101,53 @@ uint8_t humdayeg_replay_with(uint8_t p, uint8_t t, uint8_t m, uint8_t b, uint8_t
                              uint32_t *place);
 
 /*
+ * The kinds of the words that processors share. A word is a kind and a number: of the mutex, of the
+ * processor whose ready queue it is (1 for the single one), or of the thread. The owner of a mutex
+ * is no word, nor are the registers of a processor.
+ */
+enum {
+    HUMDAYEG_WORD_NONE = 0,     /* no word; its number is 0 */
+    HUMDAYEG_WORD_COUNT = 1,    /* the count of a mutex */
+    HUMDAYEG_WORD_TOKEN = 2,    /* the token of a mutex */
+    HUMDAYEG_WORD_QUEUE = 3,    /* the queue of a mutex */
+    HUMDAYEG_WORD_READY = 4,    /* a ready queue */
+    HUMDAYEG_WORD_BIRTH = 5     /* the birth of a thread: whether it is new */
+};
+
+/* The bytes of what a move touches: the kind and the number of a word read, then of one written. */
+#define HUMDAYEG_TOUCH_BYTES 4
+
+/*
+ * Replays moves from a start table and writes which word each of them reads and which it writes, so
+ * that a window can colour them.
+ *
+ * p, t, m, b, stealing: the start table, as for humdayeg_replay_with.
+ * moves: moves_len bytes, as for humdayeg_replay.
+ * words: words_len bytes, HUMDAYEG_TOUCH_BYTES for each move or more. For move i, counted from 0,
+ *     words[4i] and words[4i + 1] become the kind and the number of the word that it reads,
+ *     words[4i + 2] and words[4i + 3] those of the word that it writes. Where both are one word, it
+ *     stands twice. Bytes after the last move's keep their values.
+ * place: set at every call, as by humdayeg_replay.
+ *
+ * The words are those in the state before the move: CI2's is the ready queue that the processor's
+ * probe gives then, and a line that changes a word only where it finds it as it wants it (TL1, L8,
+ * GT3, H8, and CI2 and H2 with a thread in the queue) else only reads it.
+ *
+ * Answers, the first that is there:
+ *     1        the table is outside its ranges; place is 0
+ *     2 to 8, 21
+ *              the number of the first refused move, with its place, as by humdayeg_replay
+ *     10       every move is accepted and words_len is under HUMDAYEG_TOUCH_BYTES times the number
+ *              of moves; place is 0
+ *     0        accepted, the words are written; place is 0. Without moves nothing is written.
+ * With any answer but 0 no byte of words is changed.
+ */
+uint8_t humdayeg_words(uint8_t p, uint8_t t, uint8_t m, uint8_t b, uint8_t stealing,
+                       const uint8_t *moves, size_t moves_len,
+                       uint8_t *words, size_t words_len,
+                       uint32_t *place);
+
+/*
  * Takes the turns of a class from a start table, each thread calling by its script, and writes
  * the picture after each turn.
  *
