@@ -1,6 +1,6 @@
 //! What the library is to answer, worked out by the package `independent`.
 
-use crate::{Ahead, Replayed, Table};
+use crate::{Ahead, Replayed, Table, TOUCH};
 use independent::journal::JOURNAL;
 use independent::machine::{Config, State};
 use independent::marks;
@@ -8,6 +8,7 @@ use independent::picture;
 use independent::record::Snapshot;
 use independent::script;
 use independent::session;
+use independent::touch;
 
 pub fn config([p, t, m, b]: Table) -> Config {
     Config::new(p, t, m, b)
@@ -50,6 +51,24 @@ pub fn replay(table: Table, stealing: u8, moves: &[u8], buffer: &[u8]) -> (Repla
     let mut after = buffer.to_vec();
     after[..shown.len()].copy_from_slice(&shown);
     (Replayed { number: 0, place: 0 }, after)
+}
+
+/// The answer about the words of moves and the buffer after it.
+pub fn words(table: Table, stealing: u8, moves: &[u8], buffer: &[u8]) -> (Replayed, Vec<u8>) {
+    let answer = |number: u8, place: u32| Replayed { number, place };
+    let config = config(table).with_stealing(stealing);
+    if !config.in_range() {
+        return (answer(1, 0), buffer.to_vec());
+    }
+    match touch::of_list(config, moves) {
+        Err((number, place)) => (answer(number, place), buffer.to_vec()),
+        Ok(all) if buffer.len() < TOUCH * all.len() => (answer(10, 0), buffer.to_vec()),
+        Ok(all) => {
+            let mut after = buffer.to_vec();
+            after[..TOUCH * all.len()].copy_from_slice(&touch::bytes(&all));
+            (answer(0, 0), after)
+        }
+    }
 }
 
 /// The answer to a class, with its moves as bytes; both buffers become what they are after it.

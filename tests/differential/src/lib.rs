@@ -30,6 +30,18 @@ mod c {
             picture_len: usize,
             place: *mut u32,
         ) -> u8;
+        pub fn humdayeg_words(
+            p: u8,
+            t: u8,
+            m: u8,
+            b: u8,
+            stealing: u8,
+            moves: *const u8,
+            moves_len: usize,
+            words: *mut u8,
+            words_len: usize,
+            place: *mut u32,
+        ) -> u8;
         pub fn humdayeg_class(
             p: u8,
             t: u8,
@@ -72,6 +84,9 @@ mod c {
 
 /// The longest picture.
 pub const MOST_PICTURE: usize = 296;
+
+/// The bytes of a move's words.
+pub const TOUCH: usize = 4;
 
 /// P, T, M and B.
 pub type Table = [u8; 4];
@@ -129,6 +144,29 @@ pub fn replay_with(table: Table, stealing: u8, moves: &[u8], picture: &mut [u8])
             moves.len(),
             picture.as_mut_ptr(),
             picture.len(),
+            &mut place,
+        )
+    };
+    Replayed { number, place }
+}
+
+/// Writes the words that each move of a list reads and writes, four bytes a move; refused, it writes
+/// nothing.
+pub fn words(table: Table, stealing: u8, moves: &[u8], words: &mut [u8]) -> Replayed {
+    let [p, t, m, b] = table;
+    let mut place = u32::MAX;
+    // As above.
+    let number = unsafe {
+        c::humdayeg_words(
+            p,
+            t,
+            m,
+            b,
+            stealing,
+            moves.as_ptr(),
+            moves.len(),
+            words.as_mut_ptr(),
+            words.len(),
             &mut place,
         )
     };

@@ -1,6 +1,6 @@
 //! Sessions to compare: lists of moves and the states on the way, from a seed.
 
-use crate::{expected, replay, replay_with, Table};
+use crate::{expected, replay, replay_with, words, Table};
 use independent::machine::{Move, State};
 use independent::random::{Call, Driver, Generator, Rates};
 use std::ops::Range;
@@ -112,6 +112,16 @@ pub fn compare_with(table: Table, stealing: u8, moves: &[u8], length: usize) {
     let mut after = before.clone();
     let answer = replay_with(table, stealing, moves, &mut after);
     let (wanted, buffer) = expected::replay(table, stealing, moves, &before);
+    assert_eq!(answer, wanted, "{table:?} {stealing}, {} bytes, buffer {length}", moves.len());
+    assert!(after == buffer, "{table:?} {stealing}, {} bytes, buffer {length}", moves.len());
+}
+
+/// Compares the words of moves, the answer and every byte of the buffer.
+pub fn compare_words(table: Table, stealing: u8, moves: &[u8], length: usize) {
+    let before = patterned(length);
+    let mut after = before.clone();
+    let answer = words(table, stealing, moves, &mut after);
+    let (wanted, buffer) = expected::words(table, stealing, moves, &before);
     assert_eq!(answer, wanted, "{table:?} {stealing}, {} bytes, buffer {length}", moves.len());
     assert!(after == buffer, "{table:?} {stealing}, {} bytes, buffer {length}", moves.len());
 }

@@ -226,7 +226,7 @@ fn compare_sessions(sessions: &[Session]) {
         Job::LastMove,
         sessions,
         most - 1,
-        make_move,
+        |record, journal, made| make_move(record, journal, made).answer(),
     );
     compare_last(
         "a step back from 4,000 moves",

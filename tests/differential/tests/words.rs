@@ -1,0 +1,199 @@
+//! The words of moves through the static library against the independent machine, byte for byte.
+
+use differential::expected;
+use differential::sessions::{compare_words, drive, drive_with, patterned, tail, Session};
+use differential::{words, Replayed, TOUCH};
+use independent::machine::{Move, EXIT, GO, MOST_MOVES};
+use independent::owners;
+use independent::random::{Driver, Generator, Rates};
+use independent::touch::Touch;
+use independent::worked;
+use std::collections::{BTreeMap, BTreeSet};
+
+/// The words of a session's moves, worked out from the states on the way.
+fn touches(session: &Session) -> Vec<Touch> {
+    let moves = session.moves.chunks(3).map(|made| [made[0], made[1], made[2]]);
+    moves.zip(&session.states).map(|(made, before)| Touch::of(before, made)).collect()
+}
+
+/// The library gives these words of the first `made` moves, and keeps the bytes behind them.
+fn gives(session: &Session, all: &[Touch], made: usize) {
+    let mut wanted = patterned(TOUCH * made + 3);
+    let mut after = wanted.clone();
+    for (bytes, touch) in wanted.chunks_exact_mut(TOUCH).zip(&all[..made]) {
+        bytes.copy_from_slice(&touch.bytes());
+    }
+    let answer = words(session.table, session.stealing, &session.moves[..3 * made], &mut after);
+    assert_eq!(answer, Replayed { number: 0, place: 0 });
+    assert!(after == wanted, "{:?} after {made} moves", session.table);
+}
+
+/// A refused move at the end of a session, alone and with bytes behind it, in buffers that are too
+/// short, just long enough and longer.
+fn refuses(session: &Session, made: Move, behind: &[u8]) {
+    let mut moves = session.moves.clone();
+    moves.extend(made);
+    let room = TOUCH * moves.len() / 3;
+    for length in [0, room - TOUCH, room, room + 9] {
+        compare_words(session.table, session.stealing, &moves, length);
+    }
+    moves.extend(behind);
+    compare_words(session.table, session.stealing, &moves, room + 2 * TOUCH);
+}
+
+/// Buffers about the length that is needed, and bytes of a move left over.
+fn lengths(session: &Session) {
+    let room = TOUCH * session.moves.len() / 3;
+    let near = [0, 1, TOUCH - 1, TOUCH, room / 2].into_iter();
+    for length in near.chain(room.saturating_sub(5)..=room + 5) {
+        compare_words(session.table, session.stealing, &session.moves, length);
+        for left in 1..session.moves.len().min(3) {
+            let less = &session.moves[..session.moves.len() - left];
+            compare_words(session.table, session.stealing, less, length);
+        }
+    }
+}
+
+#[test]
+fn short_sessions_move_by_move() {
+    let mut met: BTreeMap<Touch, usize> = BTreeMap::new();
+    let mut numbers = BTreeSet::new();
+    for seed in 0..300 {
+        let session = drive(seed, Rates::USUAL, 120, |session, made| {
+            let mut generator = Generator::new(seed);
+            refuses(session, made, &tail(&mut generator));
+            numbers.extend(session.state().cause(made));
+        });
+        let all = touches(&session);
+        for made in 0..=all.len() {
+            gives(&session, &all, made);
+        }
+        all.iter().for_each(|&touch| *met.entry(touch).or_default() += 1);
+    }
+    assert!(numbers.into_iter().eq([2, 3, 4, 5, 6, 7, 21]));
+    // Each kind of word with each way to touch it, and each ready queue.
+    let ways: BTreeSet<[u8; 2]> =
+        met.keys().map(|touch| [touch.read.bytes()[0], touch.written.bytes()[0]]).collect();
+    let wanted = [[0, 0], [0, 2], [1, 0], [1, 1], [2, 0], [2, 2], [3, 0], [3, 3], [4, 0], [4, 4]];
+    assert!(ways.into_iter().eq(wanted.into_iter().chain([[5, 5]])));
+    let queues = met.keys().filter(|touch| touch.written.bytes()[0] == 4).count();
+    assert_eq!(queues, 8);
+}
+
+#[test]
+fn lengths_of_buffers() {
+    for seed in 0..60 {
+        for calls in [0, 1, 2, 3, 20, 60] {
+            lengths(&drive(seed, Rates::ACCEPTED, calls, |_, _| ()));
+        }
+    }
+}
+
+#[test]
+fn start_tables() {
+    let moves = [1, 4, 0, 1, 0, 0, 1];
+    for n in 0..=255 {
+        for table in [[n, 5, 2, 3], [2, n, 2, 3], [2, 5, n, 3], [2, 5, 2, n]] {
+            for length in [0, 8] {
+                compare_words(table, n % 3, &moves[..6], length);
+                compare_words(table, n % 2, &moves, length);
+            }
+            compare_words(table, 1, &[], 0);
+        }
+        compare_words([2, 5, 2, 3], n, &moves[..6], 8);
+        compare_words([2, 5, 2, 3], n, &moves[..6], 7);
+    }
+}
+
+/// Worked sessions, both choices.
+#[test]
+fn worked_sessions() {
+    for worked in [
+        worked::k4(),
+        worked::k5(),
+        worked::k6(),
+        worked::k7(),
+        worked::k8(),
+        worked::k8_with_trylocks(),
+        worked::steals(1),
+        worked::steals(2),
+        worked::steals(3),
+        worked::own_queues(),
+    ] {
+        let table = expected::table(worked.config);
+        for stealing in [0, 1] {
+            let length = TOUCH * worked.moves.len();
+            compare_words(table, stealing, &worked.moves.concat(), length);
+        }
+    }
+}
+
+/// Every processor's go and every call after random sessions, wrong ones too.
+#[test]
+fn every_move() {
+    for seed in 0..120 {
+        let session = drive(seed, Rates::ACCEPTED, 10 + seed as usize, |_, _| ());
+        let [p, t, m, _] = session.table;
+        for processor in 0..=p + 1 {
+            for (action, most) in [(0, 0), (1, m), (2, m), (3, m), (4, 0), (5, 0), (6, t), (7, 0)] {
+                for operand in [0, 1, most, most + 1] {
+                    let made = [processor, action, operand];
+                    let moves = [&session.moves[..], &made].concat();
+                    let room = TOUCH * moves.len() / 3;
+                    compare_words(session.table, session.stealing, &moves, room);
+                }
+            }
+        }
+    }
+}
+
+/// 4,000 moves, and the one after them with its other numbers.
+#[test]
+fn long_sessions() {
+    for seed in 1_000..1_020 {
+        let session = drive(seed, Rates::ACCEPTED, usize::from(MOST_MOVES), |_, _| ());
+        gives(&session, &touches(&session), usize::from(MOST_MOVES));
+        let p = session.table[0];
+        for made in [[1, GO, 0], [p + 1, GO, 0], [1, 9, 0], [p, EXIT, 0]] {
+            refuses(&session, made, &[1, 0]);
+        }
+        let room = TOUCH * usize::from(MOST_MOVES);
+        for length in [0, room - 1, room, room + 1] {
+            compare_words(session.table, session.stealing, &session.moves, length);
+        }
+    }
+}
+
+/// Owners that try to exit.
+#[test]
+fn owner_exits() {
+    for stealing in [0, 1] {
+        for owning in owners::owning(stealing) {
+            let config = owning.session.config;
+            let mut session = Session::new(expected::table(config), stealing);
+            owning.session.moves.iter().for_each(|&made| session.make(made).unwrap());
+            refuses(&session, [owning.p, EXIT, 0], &[]);
+        }
+    }
+    let rates = Rates { refused: 0, undo: 0, owner_exits: 4 };
+    for seed in 0..40 {
+        drive_with((seed % 2) as u8, seed, rates, 150, |session, made| {
+            refuses(session, made, &[]);
+        });
+    }
+}
+
+/// Moves that nobody checks beforehand.
+#[test]
+fn any_bytes() {
+    for seed in 0..400 {
+        let mut driver = Driver::new(seed, Rates::USUAL);
+        let table = expected::table(driver.generator.config());
+        let stealing = driver.generator.between(0, 1);
+        let length = driver.generator.below(40);
+        let small = |generator: &mut Generator| generator.between(0, 4);
+        let moves: Vec<u8> = (0..length).map(|_| small(&mut driver.generator)).collect();
+        let room = driver.generator.below(60);
+        compare_words(table, stealing, &moves, room);
+    }
+}
