@@ -1,6 +1,7 @@
 //! Random inputs for the line program `course` from a seed: lively sessions of moves, steps back,
-//! scripts, turns and classes, looked at and marked now and then, with wrong lines between. They
-//! are made along the program's own session, so that most calls are accepted.
+//! scripts, turns and classes, looked at and marked now and then, or looked at after most of them,
+//! with wrong lines between. They are made along the program's own session, so that most calls are
+//! accepted.
 //!
 //! ```
 //! use independent::{course, random_course};
@@ -32,6 +33,20 @@ pub fn input(seed: u64, lines: usize) -> Vec<u8> {
         writer.input.pop();
     }
     writer.input
+}
+
+/// The same with views between: mostly one after a move, a turn, a class or a step back.
+pub fn viewed(seed: u64, lines: usize) -> Vec<u8> {
+    let mut generator = Generator::new(!seed);
+    let mut all = Vec::new();
+    for line in input(seed, lines).split_inclusive(|&byte| byte == b'\n') {
+        all.extend(line);
+        let steps = ["move ", "turn", "back"].iter().any(|word| line.starts_with(word.as_bytes()));
+        if steps && line.ends_with(b"\n") && !generator.once_in(4) {
+            all.extend(b"view\n");
+        }
+    }
+    all
 }
 
 /// The input so far, and the program's session after it.

@@ -545,7 +545,7 @@ fn random_sessions() {
 #[test]
 fn random_inputs() {
     for seed in 0..100 {
-        let output = run(&random_course::input(seed, 250));
+        let output = run(&random_course::viewed(seed, 250));
         assert!(!output.contains(" \n") && !output.contains("\n\n\n"));
     }
 }

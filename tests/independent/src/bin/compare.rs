@@ -1,6 +1,7 @@
 //! Compares a program `course` with the one here, byte for byte, on random inputs.
 //!
-//!   compare PROGRAM COUNT LINES FOLDER      inputs of the seeds 0, 1, .., each of so many lines
+//!   compare PROGRAM COUNT LINES FOLDER      inputs of the seeds 0, 1, .., each of so many lines and
+//!                                           views between
 //!
 //! An input on which they differ is kept in the folder, with the output wanted. Last line:
 //! `N passed, M failed`.
@@ -48,7 +49,7 @@ fn main() -> io::Result<ExitCode> {
     let [count, lines] = [count, lines].map(|word| word.parse::<u64>().expect("a number"));
     let mut failed = 0;
     for seed in 0..count {
-        let input = random_course::input(seed, lines as usize);
+        let input = random_course::viewed(seed, lines as usize);
         let wanted = course::run(&input).into_bytes();
         if let Some(wrong) = compare(program, &input, &wanted)? {
             let kept = Path::new(folder).join(format!("course-{seed}"));

@@ -37,6 +37,25 @@ fn viewed(worked: &Worked) -> Vec<u8> {
     spelling::input(&lines)
 }
 
+/// Moves, turns and steps back, some of them refused, each with the view after it: a create, looks, a
+/// hand-off by token that a trylock takes, yields.
+fn touched(stealing: u8) -> Vec<u8> {
+    let config = Config::new(3, 5, 2, 3).with_stealing(stealing);
+    let mut lines = vec![spelling::start(config)];
+    lines.extend(["script 1 6 5 1 2 3 2 4 0", "script 2 1 2", "script 3 2 2"].map(String::from));
+    let turns = [1, 1, 1, 2, 1, 2, 0, 1, 1, 1, 1, 2, 2, 9, 1, 2];
+    lines.extend(turns.map(|p| format!("turn {p}")));
+    let moves = [[3, 2, 2], [3, 0, 0], [3, 7, 0], [3, 0, 0], [3, 0, 0], [3, 1, 2], [3, 0, 0]];
+    lines.extend(moves.map(spelling::make_move));
+    lines.extend(
+        ["turns 1 1 1 1 1 2 2 2 2 2 2", "back", "turns 0 9", "turns 1 1", "start 9 9 9 9"]
+            .map(String::from),
+    );
+    lines.extend(vec!["back".to_string(); 38]);
+    let viewed = lines.into_iter().flat_map(|line| [line, "view".to_string()]);
+    spelling::input(&viewed.collect::<Vec<_>>())
+}
+
 /// The class of the examples, turn by turn, and back to its start with a chart after each step.
 fn turn_by_turn() -> Vec<u8> {
     let mut lines =
@@ -278,6 +297,8 @@ fn fixed() -> Vec<(&'static str, Vec<u8>)> {
         ("k8-views", viewed(&worked::k8_with_trylocks())),
         ("each-steals-2-views", viewed(&worked::steals(2))),
         ("each-own-queues-views", viewed(&worked::own_queues())),
+        ("touched", touched(0)),
+        ("each-touched", touched(1)),
         ("scripts", scripts()),
         ("refused-turns", refused_turns()),
         ("owner-exits", owner_exits::course(0)),
@@ -297,6 +318,8 @@ pub fn write_all(folder: &Folder) -> io::Result<()> {
     let named = fixed().into_iter().chain(course_marks::all()).chain(endings());
     all.extend(named.map(|(name, input)| (name.into(), input)));
     all.extend((1..=41).map(|seed| (format!("random-{seed:02}"), random(seed))));
+    let viewed = |seed| (format!("viewed-{seed}"), random_course::viewed(seed, 60));
+    all.extend((1..=8).map(viewed));
     for (name, input) in all {
         folder.write(&format!("{name}.in"), &input)?;
         folder.write(&format!("{name}.out"), course::run(&input).as_bytes())?;

@@ -10,6 +10,7 @@ mod pictures;
 mod sessions;
 mod states;
 mod turns;
+mod words;
 
 use independent::picture::hex;
 use std::path::{Path, PathBuf};
@@ -52,5 +53,6 @@ fn main() -> io::Result<()> {
     course::write_all(&Folder::new(root, "course")?)?;
     turns::write_all(&Folder::new(root, "turns")?)?;
     classes::write_all(&Folder::new(root, "classes")?)?;
-    marks::write_all(&Folder::new(root, "marks")?)
+    marks::write_all(&Folder::new(root, "marks")?)?;
+    words::write_all(&Folder::new(root, "words")?)
 }
