@@ -56,8 +56,9 @@ fi
 run independent cargo test --release --offline --locked --manifest-path tests/independent/Cargo.toml
 if run programs rt check stepper course; then
     run stepper-sessions sh tests/check_sessions.sh target/bin/stepper tests/vectors/sessions
-    # Course answers the stepper's lines alike.
-    run course-sessions sh tests/check_sessions.sh target/bin/course tests/vectors/course tests/vectors/sessions
+    run course-sessions sh tests/check_sessions.sh target/bin/course tests/vectors/course
+    # Course answers the stepper's lines alike, but for the words that it names behind an accepted move.
+    run course-plain-sessions sh tests/check_sessions.sh --numbers target/bin/course tests/vectors/sessions
     run course-random timeout 300 cargo run --release --offline --locked --manifest-path tests/independent/Cargo.toml --bin compare -- \
         target/bin/course 400 400 "$logs"
 fi

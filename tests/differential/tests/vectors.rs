@@ -1,8 +1,9 @@
-//! The stored vectors through the static library: pictures, turns ahead, classes, marks, and the
-//! program's sessions with each answer worked out by a replay.
+//! The stored vectors through the static library: pictures, turns ahead, classes, marks, words, and
+//! the program's sessions with each answer worked out by a replay.
 
 use differential::{
-    ahead, class, class_with, mark, read, replay_with, Ahead, Replayed, Table, MOST_PICTURE,
+    ahead, class, class_with, mark, read, replay_with, words, Ahead, Replayed, Table, MOST_PICTURE,
+    TOUCH,
 };
 use std::collections::BTreeMap;
 use std::fs;
@@ -237,6 +238,47 @@ fn lists_of_marks() {
     for wanted in [0, 10_000, 20_011, 20_012, 20_013, 20_014] {
         assert!(met.contains(&wanted), "{wanted}");
     }
+}
+
+/// The moves' words, and no byte behind them.
+#[test]
+fn words_of_moves() {
+    let mut moves_met = 0;
+    for path in files("words", ".txt") {
+        let text = text(&path);
+        let fields: BTreeMap<&str, &str> =
+            text.lines().map(|line| line.split_once(' ').unwrap()).collect();
+        let ((table, fifth), moves) = (table(fields["table"]), unhex(fields["moves"]));
+        let count = moves.len() / 3;
+        let mut got = vec![0xa5; TOUCH * count + 1];
+        let answer = words(table, fifth.unwrap_or(0), &moves, &mut got);
+        assert_eq!(answer, Replayed { number: 0, place: 0 }, "{}", path.display());
+        assert_eq!(got.pop(), Some(0xa5));
+        assert!(got == unhex(fields["words"]), "{}", path.display());
+        moves_met += count;
+    }
+    assert!(moves_met > 7_000, "{moves_met}");
+}
+
+#[test]
+fn boundaries_of_words() {
+    let mut met = BTreeMap::new();
+    for path in files("words", ".list") {
+        for line in text(&path).lines() {
+            let (numbers, moves) = line.rsplit_once(' ').unwrap();
+            let all: Vec<u32> = numbers.split(' ').map(|word| word.parse().unwrap()).collect();
+            let &[number, place, p, t, m, b, stealing, length] = &all[..] else { panic!("{line}") };
+            let table = [p, t, m, b].map(|size| size as u8);
+            let mut buffer = vec![0xa5; length as usize];
+            let got = words(table, stealing as u8, &unhex(moves), &mut buffer);
+            assert_eq!(got, Replayed { number: number as u8, place }, "{line}");
+            if number != 0 {
+                assert!(buffer.iter().all(|&byte| byte == 0xa5), "{line}");
+            }
+            *met.entry(number).or_insert(0) += 1;
+        }
+    }
+    assert!(met.into_keys().eq([0, 1, 2, 3, 4, 5, 6, 7, 10, 21]));
 }
 
 /// The line program's session as a start table and the list of its standing moves.
