@@ -50,7 +50,7 @@ for folder in "$@"; do
     done
 done
 [ "$passed" -gt 0 ] || exit 2
-if ! lines=$(python3 "$here/line_by_line.py" $numbers "$program" "$@"); then
+if ! lines=$(python3 "$here/line_by_line.py" ${numbers:+"$numbers"} "$program" "$@"); then
     failed=$((failed + 1))
     echo "failed: a line at a time (what comes after the first failure is not tried so)" >&2
 fi

@@ -225,7 +225,7 @@ pub fn run(input: &[u8]) -> String {
 
 /// An output with the numbers of accepted moves and turns alone, as the plain program answers.
 pub fn without_words(output: &str) -> String {
-    let number = |line: &'_ str| match line.split_once(" reads ") {
+    let number = |line: &str| match line.split_once(" reads ") {
         Some((number, _)) => format!("{number}\n"),
         None => format!("{line}\n"),
     };

@@ -528,7 +528,37 @@ fn damaging_steps(s: &mut Script) {
     }
 }
 
-/// Random sessions with refused calls and steps back.
+/// A random session with refused calls and steps back, its words and pictures now and then.
+fn random_calls(s: &mut Script, config: Config, seed: u64) {
+    s.start(config);
+    let mut driver = Driver::new(seed, Rates { refused: 8, undo: 30, owner_exits: 0 });
+    let mut states = vec![State::start(config)];
+    for count in 1..=250 {
+        let state = states.last().expect("a start");
+        match driver.next_call(state) {
+            Call::Move(made) => {
+                s.make(made);
+                let mut next = state.clone();
+                if next.try_move(made).is_ok() {
+                    states.push(next);
+                }
+            }
+            Call::Undo => {
+                s.say("b");
+                if states.len() > 1 {
+                    states.pop();
+                }
+            }
+        }
+        if count % 3 == 0 {
+            s.say("x");
+        }
+        if count % 25 == 0 {
+            s.say("p");
+        }
+    }
+}
+
 fn random_sessions(s: &mut Script) {
     for (seed, (p, t, m, b, stealing)) in (1..).zip([
         (2, 3, 1, 3, 0),
@@ -541,33 +571,7 @@ fn random_sessions(s: &mut Script) {
         let config = Config::new(p, t, m, b).with_stealing(stealing);
         writeln!(s.0, "# random session {seed}").unwrap();
         writeln!(s.0, "noise {seed}").unwrap();
-        s.start(config);
-        let mut driver = Driver::new(seed, Rates { refused: 8, undo: 30, owner_exits: 0 });
-        let mut states = vec![State::start(config)];
-        for count in 1..=250 {
-            let state = states.last().expect("a start");
-            match driver.next_call(state) {
-                Call::Move(made) => {
-                    s.make(made);
-                    let mut next = state.clone();
-                    if next.try_move(made).is_ok() {
-                        states.push(next);
-                    }
-                }
-                Call::Undo => {
-                    s.say("b");
-                    if states.len() > 1 {
-                        states.pop();
-                    }
-                }
-            }
-            if count % 3 == 0 {
-                s.say("x");
-            }
-            if count % 25 == 0 {
-                s.say("p");
-            }
-        }
+        random_calls(s, config, seed);
         s.all(&["front", "hash"]);
         s.swept([1, LOCK, 1]);
     }
