@@ -79,7 +79,7 @@ not-refused s a = by (cause s a) refl
 abbrev moved : ℕ → State → Moved
 moved k r = record { refusal = k; state = r }
 
-taken-if : {A : Type 0} (b : Bool) {x y : A} (z : A) → (b ≡ true → x ≡ y) → choose b x z ≡ choose b y z
+pub taken-if : {A : Type 0} (b : Bool) {x y : A} (z : A) → (b ≡ true → x ≡ y) → choose b x z ≡ choose b y z
 taken-if true z h = h refl
 taken-if false z h = refl
 

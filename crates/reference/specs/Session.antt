@@ -12,6 +12,7 @@ use Rattle.reference.specs.State.{State, same-state}
 use Rattle.reference.specs.Start.{Config, config-cause, start}
 use Rattle.reference.specs.Step.{Move, move-of, run}
 use Rattle.reference.specs.Cause.{cause, accepted}
+use Rattle.reference.specs.Touch.{Touch, nothing, touch}
 use Rattle.reference.specs.Picture.{picture-bytes}
 use Rattle.reference.specs.Script.{scripts-ok, scripts-cause, progress, turn-move, class-moves, class-answers, class-pictures}
 
@@ -69,9 +70,10 @@ pub record Call : Type 0 where
   pub request : Request
   pub lent : Lent
 
--- a call's answer: its refusal, and what is then in the further buffers lent to it
+-- a call's answer: its refusal, the words that it touched, and what is then in the further buffers lent to it
 pub record Reply : Type 0 where
   pub refusal : ℕ
+  pub touch : Touch
   pub buffers : List (List ℕ)
 
 -- the further buffers, as they were lent
@@ -136,6 +138,13 @@ fills c ms (class x ps answers pictures) j =
     with-front answers (class-answers c x (standing-in ms j) ps) ∷ with-front pictures (class-pictures c x (standing-in ms j) ps) ∷ []
 fills c ms back j = []
 
+-- what an accepted move touches (document 02, No. 4), and a turn by its move; the other requests say none
+abbrev pub touches : Config → List Move → Request → Lent → Touch
+touches c ms (move a) j = touch (state-of c ms) a
+touches c ms (turn x p) j = touch (state-of c ms) (turn-with c ms j x p)
+touches c ms (class x ps answers pictures) j = nothing
+touches c ms back j = nothing
+
 module _ (c : Config) (size : ℕ) where
   -- the first cause in the request's order, else 0; no session meets 15
   abbrev pub answer-to : List Move → Request → Lent → ℕ
@@ -157,9 +166,11 @@ module _ (c : Config) (size : ℕ) where
       (refuse (eqb (length ms) 0) nothing-applied
       (refuse (mismatched c ms j) bad-journal 0))
 
-  -- a refused call leaves the further buffers as they were
+  -- a refused call touches nothing and leaves the further buffers as they were
   abbrev pub reply-to : List Move → Request → Lent → Reply
-  reply-to ms q j = record { refusal = answer-to ms q j; buffers = choose (eqb (answer-to ms q j) 0) (fills c ms q j) (buffers-of q) }
+  reply-to ms q j =
+      let accepts : Bool = eqb (answer-to ms q j) 0 in
+      record { refusal = answer-to ms q j; touch = choose accepts (touches c ms q j) nothing; buffers = choose accepts (fills c ms q j) (buffers-of q) }
 
   abbrev pub answer : List Move → Call → Reply
   answer ms k = reply-to ms (k .request) (k .lent)

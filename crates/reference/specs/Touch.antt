@@ -1,10 +1,11 @@
 -- Document 02, No. 4: which shared word a move reads and which it writes. The owner is no word.
 -- Assumes nothing.
 use Prim.Native.Nat.{ℕ}
+use mathlib.Core.List.{List, [], _∷_}
 use lib.Dec.{eqb}
 use Rattle.reference.specs.Lists.{choose, if-zero, if-empty}
 use Rattle.reference.specs.State.{State, Line, App, CI2, CI3, L1, L3, L4, L6, L7, L8, L9, L10, TL1, GT1, GT3, TL3, U1, H2, H3, H5, H6, H8, Y1, Y2, Y3, C2, same-token, processor-at}
-use Rattle.reference.specs.Step.{View, own-token, unchanged, view, works-on, Action, go, lock, trylock, unlock, yield, exit, create, Move, action-of}
+use Rattle.reference.specs.Step.{View, own-token, unchanged, view, works-on, Action, go, lock, trylock, unlock, yield, exit, create, Move, action-of, next}
 use Rattle.reference.specs.Cause.{cause}
 
 -- none; the count, the token or the queue of a mutex; a ready queue, the single one being 1; the birth of a thread
@@ -78,3 +79,9 @@ touch s a =
 -- a refused move touches nothing
 unfoldable pub touched : State → Move → Touch
 touched s a = choose (eqb (cause s a) 0) (touch s a) nothing
+
+-- what the last of a list of moves touches, where they are made from s; nothing where there is none
+unfoldable pub last-touch : State → List Move → Touch
+last-touch s [] = nothing
+last-touch s (a ∷ []) = touch s a
+last-touch s (a ∷ b ∷ rest) = last-touch (next s a) (b ∷ rest)

@@ -10,7 +10,7 @@ use lib.ListN.{length, take}
 use borrow.Author.Tests.{lt-ltb, le-ltb, ltb-false, eqb-true, ne-eqb, not-false}
 use Rattle.state.specs.declared.State.{State as Record}
 use Rattle.state.specs.declared.Session.{Session}
-use Rattle.session.specs.declared.Answer.{Answer}
+use Rattle.session.specs.declared.MoveAnswer.{MoveAnswer}
 use Rattle.state.specs.Record.{zero-session, Sized}
 use Rattle.state.specs.Association.{encode, decode}
 use Rattle.state.specs.Rules.{session-ok}
@@ -19,14 +19,17 @@ use Rattle.state.proofs.Started.{start-shown}
 use Rattle.reference.specs.Lists.{in-range, choose}
 use Rattle.reference.specs.Start.{Config, config-cause}
 use Rattle.reference.specs.Step.{Move, next}
+use Rattle.reference.specs.Touch.{Touch, nothing, touch}
 use Rattle.reference.specs.Session.{short}
 use Rattle.reference.proofs.Tests.{passed}
 use Rattle.reference.proofs.Legal.{legal}
 use Rattle.shown.proofs.Kept.{state-kept, fields-say}
 use Rattle.shown.proofs.Unique.{session-held}
-use Rattle.step.specs.declared.Moved.{Moved}
-use Rattle.step.specs.model.Moves.{moved-of}
-use Rattle.agreement.proofs.Moved.{refusal, not-refused, moved-valid}
+use Rattle.agreement.proofs.Moved.{refusal, not-refused}
+use Rattle.touch.specs.declared.Made.{Made}
+use Rattle.touch.specs.Association.{touch-record}
+use Rattle.touch.specs.model.Made.{made-of}
+use Rattle.touch.proofs.Agrees.{made-valid}
 use Rattle.session.specs.Contract.{shown, started, or-later, lent-refusal, matches, test-refusal, move-refusal, moved, written-at, journal-after, front}
 use Rattle.session.specs.model.Replay.{stored}
 use Rattle.session.proofs.Standing.{sets-written}
@@ -88,38 +91,44 @@ test-passed r j e =
 -- ---- move
 
 module _ (r : Session) (j : List ℕ) (a : Move) where
-  -- 10, 15 or 16: the record handed in, and the journal as it was
-  pub move-untested : (n : ℕ) → n ≡ test-refusal r j → (n ≡ 0 → ⊥) → (record { refusal = n; session = r } ≡ moved r j a) × (j ≡ journal-after r j a)
+  -- 10, 15 or 16: the record handed in, nothing touched, and the journal as it was
+  pub move-untested : (n : ℕ) → n ≡ test-refusal r j → (n ≡ 0 → ⊥) → (record { refusal = n; session = r; touch = touch-record nothing } ≡ moved r j a) × (j ≡ journal-after r j a)
   unfolding move-refusal moved journal-after
   move-untested n e h = let m : n ≡ move-refusal r j a = or-first n (test-refusal r j) _ e h in (rw (← m, ne-eqb n 0 h), rw (← m, ne-eqb n 0 h))
 
-  module _ (size : Sized (r .state)) (free : test-refusal r j ≡ 0) (made : Moved)
-      (e : made ≡ moved-of (r .state) (a .processor) (a .action) (a .operand)) where
+  module _ (size : Sized (r .state)) (free : test-refusal r j ≡ 0) (made : Made)
+      (e : made ≡ made-of (r .state) (a .processor) (a .action) (a .operand)) where
     lent : (12000 ≤ length j) × (session-ok r ≡ true)
     lent = lent-passed r (length j) (test-passed r j free .0)
 
-    made-is : made ≡ record { refusal = refusal (shown r) a; state = choose (eqb (refusal (shown r) a) 0) (encode (next (shown r) a)) (r .state) }
-    made-is = e ∙ moved-valid (r .state) size (session-held r size (lent .1) .state) a
+    made-is : made ≡
+        record {
+          refusal = refusal (shown r) a;
+          state = choose (eqb (refusal (shown r) a) 0) (encode (next (shown r) a)) (r .state);
+          touch = touch-record (choose (eqb (refusal (shown r) a) 0) (touch (shown r) a) nothing);
+        }
+    made-is = e ∙ made-valid (r .state) size (session-held r size (lent .1) .state) a
 
     number-is : made .refusal ≡ refusal (shown r) a
-    number-is = ap (λ (x : Moved). x .refusal) made-is
+    number-is = ap (λ (x : Made). x .refusal) made-is
 
     number-of : refusal (shown r) a ≡ move-refusal r j a
     unfolding move-refusal
     number-of = rw free
 
-    -- 2, 3, 8, 4 or 5, 6, 7, 15, or none
-    pub made-answer : record { refusal = made .refusal; session = record { state = made .state; initial = r .initial } } ≡ moved r j a
+    -- 2, 3, 8, 4 or 5, 6, 7 or 21, 15, or none
+    pub made-answer : record { refusal = made .refusal; session = record { state = made .state; initial = r .initial }; touch = made .touch } ≡ moved r j a
     unfolding moved
     made-answer =
-        ap (λ (x : Moved). record { refusal = x .refusal; session = record { state = x .state; initial = r .initial } }) made-is ∙
-        rw (← number-of) (by (refusal (shown r) a) (eqb (refusal (shown r) a) 0) (encode (next (shown r) a)))
+        ap (λ (x : Made). record { refusal = x .refusal; session = record { state = x .state; initial = r .initial }; touch = x .touch }) made-is ∙
+        rw (← number-of) (by (refusal (shown r) a) (eqb (refusal (shown r) a) 0) (encode (next (shown r) a)) (touch (shown r) a))
       where
-        by : (n : ℕ) (b : Bool) (s : Record) →
-            _≡_ {A = Answer} (record { refusal = n; session = record { state = choose b s (r .state); initial = r .initial } })
-            (record { refusal = n; session = choose b (record { state = s; initial = r .initial }) r })
-        by n true s = refl
-        by n false s = refl
+        by : (n : ℕ) (b : Bool) (s : Record) (t : Touch) →
+            _≡_ {A = MoveAnswer}
+            (record { refusal = n; session = record { state = choose b s (r .state); initial = r .initial }; touch = touch-record (choose b t nothing) })
+            (record { refusal = n; session = choose b (record { state = s; initial = r .initial }) r; touch = touch-record (choose b t nothing) })
+        by n true s t = refl
+        by n false s t = refl
 
     pub made-journal : choose (eqb (made .refusal) 0) (stored j (r .state .applied) a) j ≡ journal-after r j a
     unfolding journal-after decode

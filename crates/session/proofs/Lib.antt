@@ -9,6 +9,7 @@ pub mod Testing
 pub mod Pictures
 pub mod Shown
 pub mod Holding
+pub mod LastTouch
 pub mod Numbers
 pub mod Along
 pub mod Worked

@@ -18,7 +18,7 @@ use Rattle.step.specs.model.Moves.{moved-of, run-of, counted-of}
 use Rattle.step.proofs.InPlace.{Ends, run-ends}
 use Rattle.reference.specs.Start.{Config, config-cause, start}
 use Rattle.reference.proofs.Moves.{run-snoc, accepted-snoc}
-use Rattle.session.proofs.Reached.{made-of, moved-reached}
+use Rattle.session.proofs.Reached.{moved-in, moved-reached}
 use Rattle.reference.specs.State.{State}
 use Rattle.reference.specs.Step.{Move, next, run}
 use Rattle.reference.specs.Cause.{cause, accepted}
@@ -95,7 +95,7 @@ module _ (c : Config) (right : config-cause c ≡ 0) (j : List ℕ) where
 
   module _ (i : ℕ) (s : Record) (g : Going c j i s) (r : Moved)
       (e : r ≡ moved-of s (getD j (3 * i) 0) (getD j (3 * i + 1) 0) (getD j (3 * i + 2) 0)) where
-    made : r ≡ made-of (run (start c) (moves i j)) (move-at j i)
+    made : r ≡ moved-in (run (start c) (moves i j)) (move-at j i)
     made =
         e ∙ ap (λ (x : Record). moved-of x (getD j (3 * i) 0) (getD j (3 * i + 1) 0) (getD j (3 * i + 2) 0)) (g .state) ∙
         moved-reached c (moves i j) right (g .all) (move-at j i)

@@ -1,4 +1,4 @@
--- What start, the journal's test, move, step back and the journal's front answer, on all inputs: the equations that their contracts state.
+-- What start, the journal's test, move, step back, the last move's words and the journal's front answer, on all inputs: the equations that their contracts state.
 -- Assumes nothing.
 use Prim.Native.Nat.{ℕ, _+_, _*_}
 use mathlib.Core.Bool.{Bool, not}
@@ -6,17 +6,21 @@ use mathlib.Core.List.{List, [], _∷_, _++_}
 use lib.Dec.{eqb}
 use lib.ListN.{length, take, drop, replicate}
 use Rattle.session.specs.declared.Answer.{Answer}
+use Rattle.session.specs.declared.MoveAnswer.{MoveAnswer}
 use Rattle.session.specs.declared.Tested.{Tested}
 use Rattle.state.specs.declared.Session.{Session}
 use Rattle.state.specs.Record.{zero-session}
 use Rattle.state.specs.Association.{decode, session-record}
 use Rattle.state.specs.Rules.{session-ok}
+use Rattle.touch.specs.declared.Touch as code
+use Rattle.touch.specs.Association.{touch-record}
 use Rattle.reference.specs.Refusal.{too-short, bad-record, nothing-applied, bad-journal, refuse}
 use Rattle.reference.specs.Lists.{choose, if-zero, tabulate}
 use Rattle.reference.specs.State.{State}
 use Rattle.reference.specs.Start.{Config, config-cause, start}
 use Rattle.reference.specs.Step.{Move, next, run}
 use Rattle.reference.specs.Cause.{cause}
+use Rattle.reference.specs.Touch.{Touch, nothing, touch, last-touch}
 use Rattle.reference.specs.Break.{step-breaks}
 use Rattle.reference.specs.Script.{progress}
 use Rattle.reference.specs.Session.{bytes, moves, all-but-last, short, replays}
@@ -70,13 +74,17 @@ unfoldable pub tested : Session → List ℕ → Tested
 tested r j =
     record { refusal = test-refusal r j; calls = if-zero (test-refusal r j) (tabulate (progress-in r j) 0 33) (replicate 33 0) }
 
--- ---- move: 10, 15 (record), 16, 2, 3, 8, 4 or 5, 6, 7, 15 (step); refused, the record handed in and the journal as it was
+-- ---- move: 10, 15 (record), 16, 2, 3, 8, 4 or 5, 6, 7 or 21, 15 (step); refused, the record handed in, nothing touched and the journal as it was
 
 unfoldable pub move-refusal : Session → List ℕ → Move → ℕ
 move-refusal r j a = or-later (test-refusal r j) (or-later (cause (shown r) a) (refuse (step-breaks (shown r) a) bad-record 0))
 
-unfoldable pub moved : Session → List ℕ → Move → Answer
-moved r j a = answered (move-refusal r j a) (session-record (next (shown r) a) (r .initial)) r
+-- accepted, a move gives the record that it makes and the words that it touches; refused, the one that stands for it and none
+abbrev pub move-answered : ℕ → Session → Session → Touch → MoveAnswer
+move-answered n made other t = record { refusal = n; session = choose (eqb n 0) made other; touch = touch-record (choose (eqb n 0) t nothing) }
+
+unfoldable pub moved : Session → List ℕ → Move → MoveAnswer
+moved r j a = move-answered (move-refusal r j a) (session-record (next (shown r) a) (r .initial)) r (touch (shown r) a)
 
 -- the journal with the move at 3n, every other byte as it was
 unfoldable pub written-at : ℕ → Move → List ℕ → List ℕ
@@ -95,6 +103,11 @@ undo-refusal r j =
 
 unfoldable pub undone : Session → List ℕ → Answer
 undone r j = answered (undo-refusal r j) (session-record (run (start (config-of r)) (all-but-last (standing r j))) (r .initial)) r
+
+-- ---- what the last standing move touched: nothing where the journal's test refuses or no move stands
+
+unfoldable pub last-touched : Session → List ℕ → code.Touch
+last-touched r j = touch-record (choose (eqb (test-refusal r j) 0) (last-touch (start (config-of r)) (standing r j)) nothing)
 
 -- ---- the journal's front: 10, 15; refused, its empty front
 

@@ -1,4 +1,4 @@
-// Sessions: start, move, step back, the journal's front and its test.
+// Sessions: start, move, step back, what the last move touched, the journal's front and its test.
 pub mod journal;
 mod replay;
 mod same;
@@ -9,20 +9,31 @@ ghost use Rattle.reference.specs.Lists.{if-zero, in-range};
 ghost use Rattle.reference.specs.Step.{move-of};
 ghost use lib.Dec.{leb};
 ghost use lib.ListN.{length};
-ghost use Rattle.session.specs.Contract.{table, started, lent-refusal, test-refusal, tested, moved, journal-after, undone, front};
+ghost use Rattle.touch.specs.Association.{touch-record};
+ghost use Rattle.reference.specs.Touch.{nothing};
+ghost use Rattle.session.specs.Contract.{table, started, lent-refusal, test-refusal, tested, moved, journal-after, undone, last-touched, front};
 ghost use Rattle.session.specs.model.Replay.{counted-in};
 use crate::journal::keep_move;
 use crate::replay::replayed;
 use rules::session_ok;
 use state::Session;
 use state::State;
+use state::queues::get;
 use state::range::in_range;
 use state::refusal::Refusal;
+use touch::Touch;
 
-// What a start, a move or a step back answers: the number that refuses it, or 0, and the session's record.
+// What a start or a step back answers: the number that refuses it, or 0, and the session's record.
 pub struct Answer {
     pub refusal: u8,
     pub session: Session,
+}
+
+// What a move or a turn answers: the same, and the words that it touched.
+pub struct MoveAnswer {
+    pub refusal: u8,
+    pub session: Session,
+    pub touch: Touch,
 }
 
 // What the test of a journal finds: 10, 15 or 16, or 0; and how many calls each thread has made by it, 0 where it is refused.
@@ -83,28 +94,38 @@ fn test(session: Session, journal: &[u8], calls: &mut [u16]) -> u8
     if agrees { 0 } else { Refusal::BAD_JOURNAL }
 }
 
+// A move or a turn that is refused before it is tried: the record handed in, and nothing touched.
+pub fn refused(refusal: u8, session: Session) -> MoveAnswer
+    ensures { λ r. ⌜ r ≡ record { refusal = refusal; session = session; touch = touch-record nothing } ⌝ }
+{
+    MoveAnswer {
+        refusal,
+        session,
+        touch: Touch::nothing(),
+    }
+}
+
 // Moves processor p: action a with operand o, once the journal is tested. Accepted, the move's three bytes are the journal's next; refused, record and journal
-// stay.
-pub fn make_move(session: Session, journal: &mut [u8], p: u8, a: u8, o: u8) -> Answer
+// stay and nothing is touched.
+pub fn make_move(session: Session, journal: &mut [u8], p: u8, a: u8, o: u8) -> MoveAnswer
     ensures answer { λ r. ⌜ r ≡ moved session (now (journal .entry)) (move-of p a o) ⌝ }
     ensures written { λ r. ⌜ now (journal .exit) ≡ journal-after session (now (journal .entry)) (move-of p a o) ⌝ }
 {
     let mut none = [0u16; 1];
     let first = test(session, journal, &mut none);
     if first != 0 {
-        return Answer {
-            refusal: first,
-            session,
-        };
+        return refused(first, session);
     }
     let state = session.state;
     let initial = session.initial;
-    let made = step::moves::moved(state, p, a, o);
+    let made = touch::make(state, p, a, o);
     keep_move(journal, made.refusal, state.applied, p, a, o);
     let state = made.state;
-    Answer {
+    let touch = made.touch;
+    MoveAnswer {
         refusal: made.refusal,
         session: Session { state, initial },
+        touch,
     }
 }
 
@@ -158,6 +179,26 @@ pub fn undo(session: Session, journal: &[u8]) -> Answer
         refusal: Refusal::BAD_JOURNAL,
         session,
     }
+}
+
+// The words that the last standing move touched: its step back gives the state before it. Nothing where that is refused.
+pub fn last_touch(session: Session, journal: &[u8]) -> Touch
+    ensures { λ r. ⌜ r ≡ last-touched session (now (journal .entry)) ⌝ }
+{
+    let back = undo(session, journal);
+    if back.refusal != 0 {
+        return Touch::nothing();
+    }
+    let before = back.session;
+    let state = before.state;
+    let at = 3 * (state.applied as usize);
+    let made = touch::make(
+        state,
+        get(journal, at),
+        get(journal, at + 1),
+        get(journal, at + 2),
+    );
+    made.touch
 }
 
 // The journal's standing moves: its first 3n bytes where n moves stand, or its empty front with the number that refuses it.

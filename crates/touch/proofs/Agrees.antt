@@ -6,8 +6,11 @@ use mathlib.Core.List.{List, [], _∷_}
 use mathlib.Core.Path.{_≡_, refl, ap, subst, _∙_}
 use native.Mathlib.Decide.{ℕ-discrete}
 use native.Mathlib.Omega.{arith}
-use borrow.Author.Tests.{ne-eqb}
-use Rattle.touch.specs.model.Made.{ready-number, first-found, view-shown, act-seen, touch-of}
+use lib.Dec.{eqb}
+use borrow.Author.Tests.{eqb-true, ne-eqb}
+use Rattle.touch.specs.declared.Made.{Made}
+use Rattle.touch.specs.Association.{touch-record}
+use Rattle.touch.specs.model.Made.{ready-number, first-found, view-shown, act-seen, touch-of, made-of}
 use Rattle.state.specs.declared.State as declared
 use Rattle.state.specs.Record.{Sized}
 use Rattle.state.specs.Association.{encode, decode, queue-at}
@@ -16,14 +19,15 @@ use Rattle.state.specs.Allowed.{Allowed}
 use Rattle.state.proofs.Branch.{if-none, if-some}
 use Rattle.state.proofs.Numbers.{queue-mutex}
 use Rattle.step.specs.declared.View as code
+use Rattle.step.specs.declared.Moved.{Moved}
 use Rattle.step.specs.model.Moves.{view-of}
-use Rattle.reference.specs.Lists.{if-empty}
+use Rattle.reference.specs.Lists.{choose, if-empty}
 use Rattle.reference.specs.State.{State, Processor, Line, App, CI2, CI3, L1, L3, L4, L6, L7, L8, L9, L10, TL1, GT1, GT3, TL3, U1, H2, H3, H5, H6, H8, Y1, Y2, Y3, C2, processor-at, mutex-at}
 use Rattle.reference.specs.State as reference
-use Rattle.reference.specs.Step.{View, view, works-on, Action, go, lock, trylock, unlock, yield, exit, create, action-of, Move}
+use Rattle.reference.specs.Step.{View, view, works-on, Action, go, lock, trylock, unlock, yield, exit, create, action-of, Move, next}
 use Rattle.reference.specs.Cause.{cause}
 use Rattle.reference.specs.Safe.{In}
-use Rattle.reference.specs.Touch.{queue, ready, Touch, looks-at, changes, line-touch, act-touch, touch}
+use Rattle.reference.specs.Touch.{queue, ready, Touch, nothing, looks-at, changes, line-touch, act-touch, touch}
 use Rattle.reference.proofs.Same.{line-number}
 use Rattle.reference.proofs.Legal.{legal}
 use Rattle.association.proofs.Transfers.{number, works-there}
@@ -31,6 +35,7 @@ use Rattle.shown.proofs.Regular.{Regular, Registers, regular-fits, allowed-regu
 use Rattle.shown.proofs.Encode.{encode-decode, decode-allowed}
 use Rattle.agreement.proofs.View.{found, seen}
 use Rattle.agreement.proofs.Causes.{mutex-shows, view-shows}
+use Rattle.agreement.proofs.Moved.{refusal, not-refused, taken-if, moved-valid}
 
 -- a line asks of a queue only whether it is empty
 same-branch : (a b : Touch) (l o : List ℕ) → o ≡ l → if-empty (first-found (found o)) a (λ x rest. b) ≡ if-empty l a (λ x rest. b)
@@ -109,9 +114,26 @@ module _ (s : State) (h : Allowed s) (a : Move) where
       ap (λ (q : ℕ). act-touch (action-of (a .action)) (a .operand) (processor-at s p .mutex) q (view-shown (seen s p (processor-at s p .mutex)))) (ready-is s g p rp) ∙
       act-same s g p rp (works-on s p) (action-of (a .action)) (a .operand)
 
+abbrev made : ℕ → declared.State → Touch → Made
+made n s t = record { refusal = n; state = s; touch = touch-record t }
+
 -- the same of a record that keeps the rules
 module _ (r : declared.State) (z : Sized r) (k : state-ok r ≡ true) (a : Move) where
   pub touch-valid : cause (decode r) a ≡ 0 → touch-of r (a .processor) (a .action) (a .operand) ≡ touch (decode r) a
   touch-valid e =
       subst (λ (q : declared.State). touch-of q (a .processor) (a .action) (a .operand) ≡ touch (decode r) a) (encode-decode r z k)
       (touch-shows (decode r) (decode-allowed r z k) a e)
+
+  -- a move with its words
+  pub made-valid : made-of r (a .processor) (a .action) (a .operand) ≡
+      record {
+        refusal = refusal (decode r) a;
+        state = choose (eqb (refusal (decode r) a) 0) (encode (next (decode r) a)) r;
+        touch = touch-record (choose (eqb (refusal (decode r) a) 0) (touch (decode r) a) nothing);
+      }
+  unfolding made-of
+  made-valid =
+      let n : ℕ = refusal (decode r) a in
+      ap (λ (m : Moved). made (m .refusal) (m .state) (choose (eqb (m .refusal) 0) (touch-of r (a .processor) (a .action) (a .operand)) nothing)) (moved-valid r z k a) ∙
+      ap (made n (choose (eqb n 0) (encode (next (decode r) a)) r))
+      (taken-if (eqb n 0) nothing (λ e. touch-valid (not-refused (decode r) a (eqb-true n 0 e) .0)))

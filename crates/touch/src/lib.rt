@@ -4,7 +4,8 @@ mod words;
 ghost use mathlib.Core.Path.{_≡_};
 ghost use Rattle.state.specs.Record.{processor-of};
 ghost use Rattle.step.specs.model.Moves.{view-of};
-ghost use Rattle.touch.specs.Association.{word-shown, kind, number};
+ghost use Rattle.touch.specs.Association.{touch-record, word-shown, kind, number};
+ghost use Rattle.reference.specs.Touch.{nothing};
 ghost use Rattle.touch.specs.model.Made.{made-of};
 use state::State;
 use state::access::mutex_at;
@@ -34,6 +35,17 @@ pub struct Made {
     pub refusal: u8,
     pub state: State,
     pub touch: Touch,
+}
+
+impl Touch {
+    pub fn nothing() -> Touch
+        ensures { λ r. ⌜ r ≡ touch-record nothing ⌝ }
+    {
+        Touch {
+            reads: Word::None,
+            writes: Word::None,
+        }
+    }
 }
 
 impl Word {
@@ -92,7 +104,7 @@ pub fn make(s: State, p: u8, action: u8, operand: u8) -> Made
         return Made {
             refusal,
             state,
-            touch: words::nothing(),
+            touch: Touch::nothing(),
         };
     }
     let v = seen(s, p);

@@ -1,7 +1,6 @@
 // The words that a line or a call touches, from what its processor sees before it.
 ghost use mathlib.Core.Path.{_≡_};
 ghost use mathlib.Core.Bool.{true, false, not};
-ghost use Rattle.reference.specs.Touch as reference;
 ghost use Rattle.step.specs.model.Moves.{token, same-tokens, nothing-there};
 ghost use Rattle.touch.specs.declared.Word.the-variants as case;
 ghost use Rattle.touch.specs.Association.{touch-record};
@@ -13,15 +12,6 @@ use state::Token;
 use state::queues::Taken;
 use step::View;
 use step::registers::same;
-
-pub(crate) fn nothing() -> Touch
-    ensures { λ r. ⌜ r ≡ touch-record reference.nothing ⌝ }
-{
-    Touch {
-        reads: Word::None,
-        writes: Word::None,
-    }
-}
 
 // The word is read, and written where the test holds.
 fn touching(test: bool, w: Word) -> Touch
@@ -109,15 +99,15 @@ fn line(v: View) -> Touch
     let position = r.position;
     match position {
         Position::CI2 => takes(ready, Word::Ready(q)),
-        Position::CI3 => nothing(),
+        Position::CI3 => Touch::nothing(),
         Position::L1 => changes(Word::Count(m)),
-        Position::L3 => nothing(),
+        Position::L3 => Touch::nothing(),
         Position::L4 => changes(Word::Queue(m)),
         Position::L6 => looks_at(Word::Token(m)),
         Position::L7 => looks_at(Word::Queue(m)),
         Position::L8 => claims(v),
         Position::L9 => takes(queue, Word::Queue(m)),
-        Position::L10 => nothing(),
+        Position::L10 => Touch::nothing(),
         Position::TL1 => touching(x.count == 0, Word::Count(m)),
         Position::GT1 => looks_at(Word::Token(m)),
         Position::GT3 => claims(v),
@@ -129,10 +119,10 @@ fn line(v: View) -> Touch
         Position::H6 => looks_at(Word::Queue(m)),
         Position::H8 => takes_back(v),
         Position::Y1 => looks_at(Word::Ready(q)),
-        Position::Y2 => nothing(),
+        Position::Y2 => Touch::nothing(),
         Position::Y3 => changes(Word::Ready(q)),
         Position::C2 => changes(Word::Ready(q)),
-        _ => nothing(),
+        _ => Touch::nothing(),
     }
 }
 
@@ -141,11 +131,11 @@ pub(crate) fn act(v: View, action: u8, operand: u8) -> Touch
     ensures { λ r. ⌜ r ≡ touch-record (act-seen action operand v) ⌝ }
 {
     match action {
-        1 => nothing(),
-        2 => nothing(),
-        3 => nothing(),
-        4 => nothing(),
-        5 => nothing(),
+        1 => Touch::nothing(),
+        2 => Touch::nothing(),
+        3 => Touch::nothing(),
+        4 => Touch::nothing(),
+        5 => Touch::nothing(),
         6 => changes(Word::Birth(operand)),
         _ => line(v),
     }

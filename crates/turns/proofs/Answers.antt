@@ -13,12 +13,16 @@ use borrow.Author.Tests.{ne-eqb, lt-ltb, le-ltb, ltb-true, ltb-false}
 use Rattle.state.specs.declared.State.{State as Record}
 use Rattle.state.specs.declared.Session.{Session}
 use Rattle.state.specs.Record.{zero-session, processor-of, Sized}
-use Rattle.step.specs.model.Moves.{moved-of}
+use Rattle.touch.specs.declared.Made as single
+use Rattle.touch.specs.Association.{touch-record}
+use Rattle.touch.specs.model.Made.{made-of}
 use Rattle.session.specs.declared.Answer.{Answer}
+use Rattle.session.specs.declared.MoveAnswer.{MoveAnswer}
 use Rattle.reference.specs.Refusal.{refuse}
 use Rattle.reference.specs.Lists.{choose, tabulate}
 use Rattle.reference.specs.Start.{Config, config-cause}
 use Rattle.reference.specs.Step.{Move, move-of}
+use Rattle.reference.specs.Touch.{Touch, nothing}
 use Rattle.reference.specs.Script.{scripts-ok, scripts-cause}
 use Rattle.reference.specs.Session.{lacks-room}
 use Rattle.session.specs.Contract.{shown, config-of, started, or-later, lent-refusal, matches, test-refusal, tested, progress-in, move-refusal, moved, journal-after}
@@ -61,7 +65,7 @@ module _ (c : Config) (x : List ℕ) (a : Answer) (e : a ≡ started c) where
 module _ (r : Session) (j x : List ℕ) (p : ℕ) where
   -- a refused turn: the number, the record handed in, and the journal as it was
   pub record Kept (n : ℕ) : Type 0 where
-    pub answer : record { refusal = n; session = r } ≡ turned r j x p
+    pub answer : record { refusal = n; session = r; touch = touch-record nothing } ≡ turned r j x p
     pub journal : j ≡ turn-journal r j x p
 
   turn-kept : (n : ℕ) → n ≡ turn-refusal r j x p → (n ≡ 0 → ⊥) → Kept n
@@ -86,12 +90,13 @@ module _ (r : Session) (j x : List ℕ) (p : ℕ) where
       -- a turn is its move
       turn-moved : moved r j (turn-made r j x p) ≡ turned r j x p
       unfolding moved turned
-      turn-moved = rw its-number (by (eqb (move-refusal r j (turn-made r j x p)) 0) _ _)
+      turn-moved = rw its-number (by (eqb (move-refusal r j (turn-made r j x p)) 0) _ _ _)
         where
-          by : (b : Bool) (n : ℕ) (s : Session) →
-              _≡_ {A = Answer} (record { refusal = n; session = choose b s r }) (record { refusal = n; session = choose b (choose b s r) r })
-          by true n s = refl
-          by false n s = refl
+          by : (b : Bool) (n : ℕ) (s : Session) (t : Touch) →
+              _≡_ {A = MoveAnswer} (record { refusal = n; session = choose b s r; touch = touch-record (choose b t nothing) })
+              (record { refusal = n; session = choose b (choose b s r) r; touch = touch-record (choose b t nothing) })
+          by true n s t = refl
+          by false n s t = refl
 
       turn-written : journal-after r j (turn-made r j x p) ≡ turn-journal r j x p
       unfolding journal-after turn-journal
@@ -116,18 +121,21 @@ module _ (r : Session) (j x : List ℕ) (p : ℕ) where
         move-is : move-of p (t .action) (t .operand) ≡ a
         move-is = ap (λ (m : Made). move-of p (m .action) (m .operand)) made-is ∙ its-own (shown r) (progress-in r j) x p
 
-        moved-is : record { refusal = t .refusal; state = t .state } ≡ moved-of (r .state) (a .processor) (a .action) (a .operand)
-        moved-is =
-            ap (λ (m : Made). record { refusal = m .refusal; state = m .state }) made-is ∙
-            ap (λ (m : Move). moved-of (r .state) (m .processor) (m .action) (m .operand)) (its-own (shown r) (progress-in r j) x p)
+        -- the move that it makes, with its words
+        abbrev made : single.Made
+        made = record { refusal = t .refusal; state = t .state; touch = t .touch }
 
-        pub turn-answer : record { refusal = t .refusal; session = record { state = t .state; initial = r .initial } } ≡ turned r j x p
-        turn-answer = made-answer r j a size free (record { refusal = t .refusal; state = t .state }) moved-is ∙ turn-moved
+        moved-is : made ≡ made-of (r .state) (a .processor) (a .action) (a .operand)
+        moved-is =
+            ap (λ (m : Made). record { refusal = m .refusal; state = m .state; touch = m .touch }) made-is ∙
+            ap (λ (m : Move). made-of (r .state) (m .processor) (m .action) (m .operand)) (its-own (shown r) (progress-in r j) x p)
+
+        pub turn-answer : record { refusal = t .refusal; session = record { state = t .state; initial = r .initial }; touch = t .touch } ≡ turned r j x p
+        turn-answer = made-answer r j a size free made moved-is ∙ turn-moved
 
         pub turn-journaled : choose (eqb (t .refusal) 0) (stored j (r .state .applied) (move-of p (t .action) (t .operand))) j ≡ turn-journal r j x p
         turn-journaled =
-            ap (λ (m : Move). choose (eqb (t .refusal) 0) (stored j (r .state .applied) m) j) move-is ∙
-            made-journal r j a size free (record { refusal = t .refusal; state = t .state }) moved-is ∙ turn-written
+            ap (λ (m : Move). choose (eqb (t .refusal) 0) (stored j (r .state .applied) m) j) move-is ∙ made-journal r j a size free made moved-is ∙ turn-written
 
 -- ---- class
 

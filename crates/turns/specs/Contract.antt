@@ -7,14 +7,16 @@ use mathlib.Core.List.{List}
 use lib.Dec.{eqb}
 use lib.ListN.{length}
 use Rattle.session.specs.declared.Answer.{Answer}
+use Rattle.session.specs.declared.MoveAnswer.{MoveAnswer}
 use Rattle.state.specs.declared.Session.{Session}
 use Rattle.state.specs.Record.{zero-session}
 use Rattle.state.specs.Association.{session-record}
-use Rattle.session.specs.Contract.{shown, config-of, answered, or-later, lent-refusal, standing, matches, test-refusal, progress-in, move-refusal, moved, journal-after}
+use Rattle.session.specs.Contract.{shown, config-of, answered, or-later, lent-refusal, standing, matches, test-refusal, progress-in, move-refusal, move-answered, moved, journal-after}
 use Rattle.reference.specs.Refusal.{too-short, bad-journal, refuse}
 use Rattle.reference.specs.Lists.{choose, with-front}
 use Rattle.reference.specs.Start.{Config, config-cause, start}
 use Rattle.reference.specs.Step.{Move}
+use Rattle.reference.specs.Touch.{touch}
 use Rattle.reference.specs.Script.{scripts-cause, turn-move, class-moves, class-answers, class-pictures}
 use Rattle.reference.specs.Session.{bytes, state-of, lacks-room}
 
@@ -23,7 +25,7 @@ use Rattle.reference.specs.Session.{bytes, state-of, lacks-room}
 unfoldable pub scripted : Config → List ℕ → Answer
 scripted c x = answered (or-later (config-cause c) (scripts-cause (c .T) x)) (session-record (start c) (c .B)) zero-session
 
--- ---- turn of processor p: 10, 15 (record), 16, 19, then its move's; refused, the record handed in and the journal as it was
+-- ---- turn of processor p: 10, 15 (record), 16, 19, then its move's; refused, the record handed in, nothing touched and the journal as it was
 
 -- its move: a thread's calls are counted in the journal
 abbrev pub turn-made : Session → List ℕ → List ℕ → ℕ → Move
@@ -32,8 +34,8 @@ turn-made r j x p = turn-move (shown r) (progress-in r j) x p
 unfoldable pub turn-refusal : Session → List ℕ → List ℕ → ℕ → ℕ
 turn-refusal r j x p = or-later (test-refusal r j) (or-later (scripts-cause (r .state .t) x) (move-refusal r j (turn-made r j x p)))
 
-unfoldable pub turned : Session → List ℕ → List ℕ → ℕ → Answer
-turned r j x p = answered (turn-refusal r j x p) (moved r j (turn-made r j x p) .session) r
+unfoldable pub turned : Session → List ℕ → List ℕ → ℕ → MoveAnswer
+turned r j x p = move-answered (turn-refusal r j x p) (moved r j (turn-made r j x p) .session) r (touch (shown r) (turn-made r j x p))
 
 unfoldable pub turn-journal : Session → List ℕ → List ℕ → ℕ → List ℕ
 turn-journal r j x p = choose (eqb (turn-refusal r j x p) 0) (journal-after r j (turn-made r j x p)) j

@@ -10,7 +10,9 @@ use crate::sequence::take_turns;
 use crate::sequence::unfit;
 use script::scripts_ok;
 use session::Answer;
+use session::MoveAnswer;
 use session::journal::keep_move;
+use session::refused;
 use session::test_journal;
 use state::Session;
 use state::State;
@@ -35,18 +37,16 @@ pub fn start(p: u8, t: u8, m: u8, b: u8, stealing: u8, scripts: &[u8]) -> Answer
     }
 }
 
-// A turn of processor p: the journal's test counts each thread's calls. Accepted, record and journal are those after its move; refused, both stay.
-pub fn turn(session: Session, journal: &mut [u8], scripts: &[u8], p: u8) -> Answer
+// A turn of processor p: the journal's test counts each thread's calls. Accepted, record and journal are those after its move; refused, both stay and nothing is
+// touched.
+pub fn turn(session: Session, journal: &mut [u8], scripts: &[u8], p: u8) -> MoveAnswer
     ensures answer { λ r. ⌜ r ≡ turned session (now (journal .entry)) (now (scripts .entry)) p ⌝ }
     ensures written { λ r. ⌜ now (journal .exit) ≡ turn-journal session (now (journal .entry)) (now (scripts .entry)) p ⌝ }
 {
     let found = test_journal(session, journal);
     let first = found.refusal;
     if first != 0 {
-        return Answer {
-            refusal: first,
-            session,
-        };
+        return refused(first, session);
     }
     let state = session.state;
     let scripted = scripts_ok(state.t, scripts);
@@ -63,15 +63,14 @@ pub fn turn(session: Session, journal: &mut [u8], scripts: &[u8], p: u8) -> Answ
         );
         let state = done.state;
         let initial = session.initial;
-        return Answer {
+        let touch = done.touch;
+        return MoveAnswer {
             refusal: done.refusal,
             session: Session { state, initial },
+            touch,
         };
     }
-    Answer {
-        refusal: Refusal::BAD_SCRIPT,
-        session,
-    }
+    refused(Refusal::BAD_SCRIPT, session)
 }
 
 // A class: the turns of the processors in `turns`, one after the other, with the answer and the picture after each turn, accepted or not, written behind one another.

@@ -10,21 +10,21 @@ use Rattle.session.proofs.make_move.Tie as tie
 
 returns : tie.Need-returns
 returns c =
-    let a = c .before .before .before .before .before .before .args in
-    let test = c .before .before .test in
-    move-untested (a .session) (a .journal .now) (move-of (a .p) (a .a) (a .o)) (test .result) (test .ensures .0) (c .if1 .taken)
+    let a = c .before .before .before .before .before .before .before .args in
+    let test = c .before .before .before .test in
+    rw (c .refused .ensures) (move-untested (a .session) (a .journal .now) (move-of (a .p) (a .a) (a .o)) (test .result) (test .ensures .0) (c .before .if1 .taken))
 
 returns-2 : tie.Need-returns-2
 returns-2 c =
-    let b = c .before .before .before .before .before in
+    let b = c .before .before .before .before .before .before in
     let i = b .before .before in
     let start = i .before .before .before .before .before .before in
     let a = start .args in
     let m = move-of (a .p) (a .a) (a .o) in
     let free = sym (i .before .before .test .ensures .0) ∙ i .if1 .left in
     let size = session-sized (start .good .0) in (
-      made-answer (a .session) (a .journal .now) m size free (b .moved .result) (b .moved .ensures),
-      c .before .before .before .keep-move .ensures ∙ made-journal (a .session) (a .journal .now) m size free (b .moved .result) (b .moved .ensures),
+      made-answer (a .session) (a .journal .now) m size free (b .make .result) (b .make .ensures),
+      c .before .before .before .before .keep-move .ensures ∙ made-journal (a .session) (a .journal .now) m size free (b .make .result) (b .make .ensures),
     )
 
 pub make-move-spec : {M : Type 1} → statement M
@@ -32,6 +32,7 @@ make-move-spec =
     tie.close
     (tie.spec
     (λ c. search needs)
+    (λ c κs. search needs)
     (λ c κs. search needs)
     (λ c. search needs)
     returns
