@@ -1,4 +1,4 @@
--- Laws of words, numbers and tokens.
+-- Laws of words, numbers, tokens, shared words and marks.
 -- Assumes nothing.
 use Prim.Native.Nat.{ℕ, zero, suc, _+_, _-_, _*_, _≤_, _<_, min}
 use native.Mathlib.Numerals.{add-one}
@@ -6,15 +6,18 @@ use native.Mathlib.Nat.{mul-le-mul}
 use native.Mathlib.Omega.{arith}
 use mathlib.Core.Bool.{Bool, true, false, cond}
 use mathlib.Core.Path.{_≡_, refl, sym, ap, _∙_}
-use mathlib.Core.List.{List, [], _∷_, _++_}
+use mathlib.Core.List.{List, [], _∷_, _++_, append-nil}
 use lib.Dec.{eqb, leb}
 use lib.ListN.{length, getD, take, drop, length-drop, drop-of-length-le}
 use lib.Seq.{drop-cons, take-length, take-all, drop-length}
 use borrow.Author.Tests.{eq-eqb, ne-eqb, leb-true, leb-false}
 use Rattle.reference.specs.Lists.{if-zero}
+use Rattle.command.specs.Command.{field}
 use Rattle.command.specs.Printing.{text, decimal, wide}
 use Rattle.state.specs.declared.Token.{Token}
-use Rattle.view.specs.Words.{trimmed, word-at, token-text}
+use Rattle.reference.specs.Touch.{Word, Touch}
+use Rattle.touch.specs.Association.{kind, number}
+use Rattle.view.specs.Words.{trimmed, word-at, kind-word, token-text, word-text, same-word, mark}
 
 -- ---- the length of a word
 
@@ -80,3 +83,23 @@ if-some (suc n) x y h = refl
 
 pub token-some : (t : Token) → (t .processor ≡ 0 → ⊥) → text "(" ++ decimal (t .processor) ++ text "," ++ wide (t .sequence) ++ text ")" ≡ token-text t
 token-some t h = sym (if-some (t .processor) _ _ h)
+
+-- ---- shared words
+
+pub word-none : (w : Word) (k : ℕ) → k ≡ kind w → k ≡ 0 → kind-word k ≡ word-text w
+unfolding word-text
+word-none w k e z = sym (append-nil (kind-word k)) ∙ ap (λ (x : List ℕ). kind-word k ++ x) (none k z) ∙ rw e
+  where
+    none : (n : ℕ) → n ≡ 0 → [] ≡ if-zero n [] (field (number w))
+    none n z = rw z
+
+pub word-some : (w : Word) (k n : ℕ) → k ≡ kind w → n ≡ number w → (k ≡ 0 → ⊥) → kind-word k ++ field n ≡ word-text w
+unfolding word-text
+word-some w k n e f h = ap (λ (x : List ℕ). kind-word k ++ x) (sym (if-some k [] (field n) h)) ∙ rw (e, f)
+
+-- ---- marks
+
+pub mark-of : (t : Touch) (w : Word) (read written : Bool) → read ≡ same-word (t .reads) w → written ≡ same-word (t .writes) w
+    → cond read (cond written (text " rw") (text " r")) (cond written (text " w") []) ≡ mark t w
+unfolding mark
+mark-of t w read written e f = rw (e, f)

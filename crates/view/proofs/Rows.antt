@@ -8,15 +8,14 @@ use mathlib.Core.Path.{_≡_, refl, sym, ap, _∙_}
 use mathlib.Core.List.{List, [], _∷_, _++_}
 use lib.Dec.{eqb}
 use lib.ListN.{length}
-use borrow.Author.Tests.{eq-eqb, ne-eqb, eqb-true}
+use borrow.Author.Tests.{eq-eqb, eqb-true}
 use Rattle.command.specs.Command.{field}
 use Rattle.command.specs.Printing.{text, Buffer, add}
 use Rattle.command.proofs.Put.{add-add, add-none, add-full, add-length}
 use Rattle.state.specs.declared.Thread.{Thread}
 use Rattle.state.specs.Record.{chain}
 use Rattle.command.specs.Request.{fields}
-use Rattle.view.specs.Words.{listed, rows}
-use Rattle.view.specs.Table.{having}
+use Rattle.view.specs.Words.{or-none, rows}
 
 -- a text and what follows it
 step : (p q : Buffer) (x y : List ℕ) → q ≡ add p x → add q y ≡ add p (x ++ y)
@@ -49,23 +48,6 @@ pub chain-end : (thread : ℕ → Thread) (p : Buffer) (n k : ℕ) → n ≡ 0 �
 unfolding chain fields
 chain-end thread p n k e = rw e (add-none p)
 
--- ---- the threads of a status
-
-pub having-next : (thread : ℕ → Thread) (s : ℕ) (p q : Buffer) (k n a b : ℕ) → a ≡ k + 1 → n ≡ b + 1 → thread k .status ≡ s → q ≡ add p (field k)
-    → add q (fields (having thread s a b)) ≡ add p (fields (having thread s k n))
-unfolding having fields
-having-next thread s p q k n a b e g t h =
-    rw (e, g, add-one k, add-one b, eq-eqb (thread k .status) s t) (step p q (field k) (fields (having thread s (suc k) b)) h)
-
-pub having-past : (thread : ℕ → Thread) (s : ℕ) (p : Buffer) (k n a b : ℕ) → a ≡ k + 1 → n ≡ b + 1 → (thread k .status ≡ s → ⊥)
-    → add p (fields (having thread s a b)) ≡ add p (fields (having thread s k n))
-unfolding having
-having-past thread s p k n a b e g t = rw (e, g, add-one k, add-one b, ne-eqb (thread k .status) s t)
-
-pub having-end : (thread : ℕ → Thread) (s : ℕ) (p : Buffer) (k n : ℕ) → n ≡ 0 → add p (fields (having thread s k n)) ≡ p
-unfolding having fields
-having-end thread s p k n e = rw e (add-none p)
-
 -- ---- a dash for none
 
 -- a text of one byte or more that adds none finds the buffer full
@@ -76,12 +58,12 @@ filled p x h l = let n = add-length p x in omega arith
 none-fits : (p q : Buffer) (x : List ℕ) → 0 < length x → q ≡ add p x → q .len ≡ p .len → length (q .bytes) ≤ q .len
 none-fits p q x h e f = rw e (filled p x h (ap (λ (b : Buffer). b .len) (sym e) ∙ f))
 
--- a list's threads, and a dash where none was put
-pub dashed : (p q r : Buffer) (l : List ℕ) → q ≡ add p (fields l) → r ≡ add q (cond (eqb (q .len) (p .len)) (text " -") []) → r ≡ add p (listed l)
-unfolding fields listed field
+-- a text, and a dash where none was put
+pub dashed : (p q r : Buffer) (x : List ℕ) → q ≡ add p x → r ≡ add q (cond (eqb (q .len) (p .len)) (text " -") []) → r ≡ add p (or-none x)
+unfolding or-none
 dashed p q r [] e f = let s = e ∙ add-none p in f ∙ rw (s, eq-eqb (p .len) (p .len) refl)
-dashed p q r (k ∷ l) e f = go (eqb (q .len) (p .len)) refl f ∙ e
+dashed p q r (b ∷ l) e f = go (eqb (q .len) (p .len)) refl f ∙ e
   where
     go : (t : Bool) → eqb (q .len) (p .len) ≡ t → r ≡ add q (cond t (text " -") []) → r ≡ q
-    go true g h = h ∙ add-full q (text " -") (none-fits p q (field k ++ fields l) (omega arith) e (eqb-true (q .len) (p .len) g))
+    go true g h = h ∙ add-full q (text " -") (none-fits p q (b ∷ l) (omega arith) e (eqb-true (q .len) (p .len) g))
     go false g h = h ∙ add-none q

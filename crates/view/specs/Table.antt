@@ -1,9 +1,10 @@
--- The table of a state: a row for each processor, mutex, ready queue and status.
+-- The table of a state: a row for each processor, mutex, ready queue and status. A mark stands behind each word that a move touched.
 -- Assumes nothing.
-use Prim.Native.Nat.{ℕ, zero, suc, _+_}
+use Prim.Native.Nat.{ℕ, _+_}
 use mathlib.Core.Bool.{cond}
-use mathlib.Core.List.{List, [], _∷_, _++_}
+use mathlib.Core.List.{List, [], _++_}
 use lib.Dec.{eqb}
+use Rattle.command.specs.Command.{field}
 use Rattle.command.specs.Printing.{text, decimal, wide, padded, line-feed}
 use Rattle.state.specs.declared.Thread.{Thread}
 use Rattle.state.specs.declared.Processor.{Processor}
@@ -14,7 +15,8 @@ use Rattle.state.specs.Association.{queue-shown}
 use Rattle.state.specs.Rules.{state-ok}
 use Rattle.reference.specs.Refusal.{bad-record}
 use Rattle.reference.specs.Lists.{if-zero}
-use Rattle.view.specs.Words.{line-name, answer-word, status-word, or-dash, token-text, listed, rows}
+use Rattle.reference.specs.Touch.{Touch, count, token, queue, ready, birth}
+use Rattle.view.specs.Words.{line-name, answer-word, status-word, or-dash, token-text, mark, or-none, listed, rows}
 
 -- ---- processors
 
@@ -30,46 +32,48 @@ processor-row p x =
 -- ---- mutexes, each with its queue
 
 abbrev pub mutexes-heading : List ℕ
-mutexes-heading = text "mutex  count  owner  token     queue\n"
+mutexes-heading = text "mutex  count  owner  token       queue\n"
 
-unfoldable pub mutex-row : ℕ → Mutex → List ℕ → List ℕ
-mutex-row m x queue =
-    padded 7 (decimal m) ++ padded 7 (decimal (x .count)) ++ padded 7 (or-dash (x .owner)) ++ padded 9 (token-text (x .token)) ++ listed queue ++ line-feed
+unfoldable pub mutex-row : Touch → ℕ → Mutex → List ℕ → List ℕ
+mutex-row t m x threads =
+    padded 7 (decimal m) ++ padded 7 (decimal (x .count) ++ mark t (count m)) ++ padded 7 (or-dash (x .owner)) ++
+    padded 11 (token-text (x .token) ++ mark t (token m)) ++ listed threads ++ mark t (queue m) ++ line-feed
 
 -- ---- ready queues: the single one, or one for each processor
 
 abbrev pub ready-heading : List ℕ
 ready-heading = text "ready queue  threads\n"
 
-unfoldable pub ready-row : List ℕ → List ℕ → List ℕ
-ready-row name queue = padded 12 name ++ listed queue ++ line-feed
+-- the ready queue of number q, under a name
+unfoldable pub ready-row : Touch → ℕ → List ℕ → List ℕ → List ℕ
+ready-row t q name threads = padded 12 name ++ listed threads ++ mark t (ready q) ++ line-feed
 
-unfoldable pub ready-rows : State → List ℕ
-ready-rows r = if-zero (r .stealing) (ready-row (text "single") (queue-shown r 0)) (rows (λ p. ready-row (decimal p) (queue-shown r (8 + p))) 1 (r .p))
+unfoldable pub ready-rows : State → Touch → List ℕ
+ready-rows r t =
+    if-zero (r .stealing) (ready-row t 1 (text "single") (queue-shown r 0)) (rows (λ p. ready-row t p (decimal p) (queue-shown r (8 + p))) 1 (r .p))
 
 -- ---- threads by status
 
 abbrev pub statuses-heading : List ℕ
 statuses-heading = text "status      threads\n"
 
--- those of k, k + 1, .., n of them, that have the status; `thread` gives the thread of a number
-unfoldable pub having : (ℕ → Thread) → ℕ → ℕ → ℕ → List ℕ
-having thread status k zero = []
-having thread status k (suc n) = cond (eqb (thread k .status) status) (k ∷ having thread status (suc k) n) (having thread status (suc k) n)
+-- thread k where it has the status, with the mark of its birth
+unfoldable pub having : Touch → ℕ → ℕ → Thread → List ℕ
+having t status k x = cond (eqb (x .status) status) (field k ++ mark t (birth k)) []
 
-unfoldable pub status-row : State → ℕ → List ℕ
-status-row r status = padded 11 (status-word status) ++ listed (having (thread-of r) status 1 (r .t)) ++ line-feed
+unfoldable pub status-row : State → Touch → ℕ → List ℕ
+status-row r t status = padded 11 (status-word status) ++ or-none (rows (λ k. having t status k (thread-of r k)) 1 (r .t)) ++ line-feed
 
 -- ---- the table, ended by an empty line
 
-unfoldable pub table : State → List ℕ
-table r =
+unfoldable pub table : State → Touch → List ℕ
+table r t =
     text "moves " ++ wide (r .applied) ++ line-feed ++
     processors-heading ++ rows (λ p. processor-row p (processor-of r p)) 1 (r .p) ++
-    mutexes-heading ++ rows (λ m. mutex-row m (mutex-of r m) (queue-shown r m)) 1 (r .m) ++
-    ready-heading ++ ready-rows r ++
-    statuses-heading ++ rows (status-row r) 0 6 ++ line-feed
+    mutexes-heading ++ rows (λ m. mutex-row t m (mutex-of r m) (queue-shown r m)) 1 (r .m) ++
+    ready-heading ++ ready-rows r t ++
+    statuses-heading ++ rows (status-row r t) 0 6 ++ line-feed
 
 -- of a record that breaks a rule, 15
-unfoldable pub view-text : State → List ℕ
-view-text r = cond (state-ok r) (table r) (decimal bad-record ++ line-feed)
+unfoldable pub view-text : State → Touch → List ℕ
+view-text r t = cond (state-ok r) (table r t) (decimal bad-record ++ line-feed)

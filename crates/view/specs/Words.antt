@@ -1,7 +1,7 @@
--- Names, numbers, tokens and lists of threads as a person reads them.
+-- Names, numbers, tokens, shared words and lists of threads as a person reads them.
 -- Assumes nothing.
 use Prim.Native.Nat.{ℕ, zero, suc, _*_}
-use mathlib.Core.Bool.{cond}
+use mathlib.Core.Bool.{Bool, cond, _&&_}
 use mathlib.Core.List.{List, [], _∷_, _++_}
 use lib.Dec.{eqb}
 use lib.ListN.{take, drop}
@@ -10,6 +10,8 @@ use Rattle.command.specs.Request.{fields}
 use Rattle.command.specs.Printing.{text, decimal, wide}
 use Rattle.state.specs.declared.Token.{Token}
 use Rattle.reference.specs.Lists.{if-zero}
+use Rattle.reference.specs.Touch.{Word, Touch}
+use Rattle.touch.specs.Association.{kind, number}
 
 -- ---- words out of a table in which each has the same width, shorter ones with spaces behind them
 
@@ -38,6 +40,10 @@ status-word = word-at 10 (text "new       ready     waiting   current   transit 
 abbrev pub action-word : ℕ → List ℕ
 action-word = word-at 7 (text "go     lock   trylockunlock yield  exit   create ")
 
+-- the kinds of a shared word
+abbrev pub kind-word : ℕ → List ℕ
+kind-word = word-at 5 (text "none counttokenqueuereadybirth")
+
 -- ---- numbers
 
 -- a number, a dash for 0
@@ -48,10 +54,37 @@ or-dash n = if-zero n (text "-") (decimal n)
 abbrev pub token-text : Token → List ℕ
 token-text t = if-zero (t .processor) (text "-") (text "(" ++ decimal (t .processor) ++ text "," ++ wide (t .sequence) ++ text ")")
 
+-- ---- shared words
+
+-- a word's kind and, but for none, the number of its mutex, ready queue or thread
+unfoldable pub word-text : Word → List ℕ
+word-text w = kind-word (kind w) ++ if-zero (kind w) [] (field (number w))
+
+-- the word that a move read and the one that it wrote
+unfoldable pub touch-text : Touch → List ℕ
+touch-text t = text " reads " ++ word-text (t .reads) ++ text " writes " ++ word-text (t .writes)
+
+-- two words are the same where kind and number are
+abbrev pub same-word : Word → Word → Bool
+same-word v w = eqb (kind v) (kind w) && eqb (number v) (number w)
+
+-- behind a word that was touched: read, written, or both
+unfoldable pub mark : Touch → Word → List ℕ
+mark t w =
+    cond (same-word (t .reads) w)
+    (cond (same-word (t .writes) w) (text " rw") (text " r"))
+    (cond (same-word (t .writes) w) (text " w") [])
+
+-- ---- lists of threads
+
+-- a text, a dash for an empty one
+unfoldable pub or-none : List ℕ → List ℕ
+or-none [] = text " -"
+or-none (b ∷ l) = b ∷ l
+
 -- a list of threads, a dash for none
-unfoldable pub listed : List ℕ → List ℕ
-listed [] = text " -"
-listed (k ∷ l) = field k ++ fields l
+abbrev pub listed : List ℕ → List ℕ
+listed l = or-none (fields l)
 
 -- ---- rows
 

@@ -1,9 +1,12 @@
-// Columns of the table: a text and spaces up to the column's width.
+// Columns of the table: a text and spaces up to the column's width; a marked one has the mark of a word `w` behind its text.
 ghost use mathlib.Core.Path.{_≡_};
+ghost use mathlib.Core.List.{_++_};
 ghost use Rattle.command.specs.Printing.{decimal, wide, padded, buffer-of, add};
-ghost use Rattle.view.specs.Words.{line-name, answer-word, status-word, or-dash, token-text};
+ghost use Rattle.touch.specs.Association.{word-shown, touch-shown};
+ghost use Rattle.view.specs.Words.{line-name, answer-word, status-word, or-dash, token-text, mark};
 use crate::words::put_answer;
 use crate::words::put_line_name;
+use crate::words::put_mark;
 use crate::words::put_or_dash;
 use crate::words::put_status;
 use crate::words::put_token;
@@ -11,6 +14,8 @@ use command::printing::pad;
 use command::printing::put_number;
 use command::printing::put_wide;
 use state::Token;
+use touch::Touch;
+use touch::Word;
 
 pub(crate) fn number_cell(out: &mut [u8], at: usize, n: u8, width: usize) -> usize
     ensures { λ r. ⌜ buffer-of (now (out .exit)) r ≡ add (buffer-of (now (out .entry)) at) (padded width (decimal n)) ⌝ }
@@ -58,5 +63,35 @@ pub(crate) fn status_cell(out: &mut [u8], at: usize, n: u8, width: usize) -> usi
     ensures { λ r. ⌜ buffer-of (now (out .exit)) r ≡ add (buffer-of (now (out .entry)) at) (padded width (status-word n)) ⌝ }
 {
     let end = put_status(out, at, n);
+    pad(out, end, at, width)
+}
+
+pub(crate) fn marked_number(
+    out: &mut [u8],
+    at: usize,
+    n: u8,
+    t: Touch,
+    w: Word,
+    width: usize,
+) -> usize
+    ensures { λ r. ⌜ buffer-of (now (out .exit)) r ≡ add (buffer-of (now (out .entry)) at) (padded width (decimal n ++ mark (touch-shown t) (word-shown w))) ⌝ }
+{
+    let end = put_number(out, at, n);
+    let end = put_mark(out, end, t, w);
+    pad(out, end, at, width)
+}
+
+pub(crate) fn marked_token(
+    out: &mut [u8],
+    at: usize,
+    token: Token,
+    t: Touch,
+    w: Word,
+    width: usize,
+) -> usize
+    ensures { λ r. ⌜ buffer-of (now (out .exit)) r ≡ add (buffer-of (now (out .entry)) at) (padded width (token-text token ++ mark (touch-shown t) (word-shown w))) ⌝ }
+{
+    let end = put_token(out, at, token);
+    let end = put_mark(out, end, t, w);
     pad(out, end, at, width)
 }

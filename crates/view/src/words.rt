@@ -1,14 +1,17 @@
-// Names, numbers and tokens put into a lent buffer behind its first `at` bytes: as much as fits. Each function answers how many bytes count then.
+// Names, numbers, tokens and shared words put into a lent buffer behind its first `at` bytes: as much as fits. Each function answers how many bytes count then.
 ghost use mathlib.Core.Path.{_≡_};
 ghost use Prim.Native.Nat.{min};
 ghost use lib.ListN.{length};
 ghost use Rattle.command.specs.Command.{field};
 ghost use Rattle.command.specs.Printing.{buffer-of, add};
-ghost use Rattle.view.specs.Words.{trimmed, word-at, line-name, answer-word, status-word, action-word, or-dash, token-text};
+ghost use Rattle.touch.specs.Association.{word-shown, touch-shown};
+ghost use Rattle.view.specs.Words.{trimmed, word-at, line-name, answer-word, status-word, action-word, or-dash, token-text, word-text, touch-text, same-word, mark};
 use command::printing::put;
 use command::printing::put_number;
 use command::printing::put_wide;
 use state::Token;
+use touch::Touch;
+use touch::Word;
 
 fn least(n: usize, m: usize) -> usize
     ensures { λ r. ⌜ r ≡ min n m ⌝ }
@@ -113,4 +116,57 @@ pub fn put_token(out: &mut [u8], at: usize, t: Token) -> usize
     let comma = put(out, first, b",");
     let second = put_wide(out, comma, t.sequence);
     put(out, second, b")")
+}
+
+// A shared word: its kind and, but for none, its number.
+fn put_shared(out: &mut [u8], at: usize, w: Word) -> usize
+    ensures { λ r. ⌜ buffer-of (now (out .exit)) r ≡ add (buffer-of (now (out .entry)) at) (word-text (word-shown w)) ⌝ }
+{
+    let kind = w.kind();
+    let number = w.number();
+    let end = put_word(out, at, b"none counttokenqueuereadybirth", 5, kind);
+    if kind == 0 {
+        return end;
+    }
+    put_field(out, end, number)
+}
+
+// The word that a move read and the one that it wrote.
+pub fn put_touch(out: &mut [u8], at: usize, t: Touch) -> usize
+    ensures { λ r. ⌜ buffer-of (now (out .exit)) r ≡ add (buffer-of (now (out .entry)) at) (touch-text (touch-shown t)) ⌝ }
+{
+    let reads = t.reads;
+    let writes = t.writes;
+    let end = put(out, at, b" reads ");
+    let end = put_shared(out, end, reads);
+    let end = put(out, end, b" writes ");
+    put_shared(out, end, writes)
+}
+
+fn same_word(v: Word, w: Word) -> bool
+    ensures { λ b. ⌜ b ≡ same-word (word-shown v) (word-shown w) ⌝ }
+{
+    let kind = v.kind();
+    let number = v.number();
+    (kind == w.kind()) & (number == w.number())
+}
+
+// Behind a word that was touched: read, written, or both.
+pub(crate) fn put_mark(out: &mut [u8], at: usize, t: Touch, w: Word) -> usize
+    ensures { λ r. ⌜ buffer-of (now (out .exit)) r ≡ add (buffer-of (now (out .entry)) at) (mark (touch-shown t) (word-shown w)) ⌝ }
+{
+    let reads = t.reads;
+    let writes = t.writes;
+    let read = same_word(reads, w);
+    let written = same_word(writes, w);
+    if read {
+        if written {
+            return put(out, at, b" rw");
+        }
+        return put(out, at, b" r");
+    }
+    if written {
+        return put(out, at, b" w");
+    }
+    at
 }

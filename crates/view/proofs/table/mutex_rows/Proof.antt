@@ -6,6 +6,7 @@ use native.Mathlib.Omega.{arith}
 use lib.ListN.{length, getD}
 use Rattle.command.specs.Printing.{buffer-of, add}
 use Rattle.state.specs.Record.{thread-in, mutex-in, chain}
+use Rattle.touch.specs.Association.{touch-shown}
 use Rattle.view.specs.Words.{rows}
 use Rattle.view.specs.Table.{mutex-row}
 use Rattle.view.proofs.Rows.{row-next, rows-end}
@@ -13,10 +14,10 @@ use Rattle.view.proofs.table.mutex_rows.Statement.{statement}
 use Rattle.view.proofs.table.mutex_rows.Tie as tie
 
 abbrev Inv-loop : tie.InvT-loop
-Inv-loop out₀ at threads firsts mutexes most end₀ m₀ out end m = (m ≤ most) × (length out ≡ length out₀) × (add (buffer-of out end) (rows (λ (i : ℕ). mutex-row i (mutex-in mutexes i) (chain (thread-in threads) 32 (getD firsts i 0))) (m + 1) (most - m)) ≡ add (buffer-of out₀ at) (rows (λ (i : ℕ). mutex-row i (mutex-in mutexes i) (chain (thread-in threads) 32 (getD firsts i 0))) 1 most))
+Inv-loop out₀ at touch threads firsts mutexes most end₀ m₀ out end m = (m ≤ most) × (length out ≡ length out₀) × (add (buffer-of out end) (rows (λ (i : ℕ). mutex-row (touch-shown touch) i (mutex-in mutexes i) (chain (thread-in threads) 32 (getD firsts i 0))) (m + 1) (most - m)) ≡ add (buffer-of out₀ at) (rows (λ (i : ℕ). mutex-row (touch-shown touch) i (mutex-in mutexes i) (chain (thread-in threads) 32 (getD firsts i 0))) 1 most))
 
 abbrev μ-loop : tie.MeasureT-loop
-μ-loop out₀ at threads firsts mutexes most end₀ m₀ out end m = most - m
+μ-loop out₀ at touch threads firsts mutexes most end₀ m₀ out end m = most - m
 
 loop-holds : tie.Need-loop-holds Inv-loop μ-loop
 loop-holds c = let s = c .before .before .before .before .before .args in let e : s .state .m - 0 ≡ s .state .m = omega arith in (search needs, refl, rw e)
@@ -28,10 +29,10 @@ loop-again c =
     let y = x .before in
     let l = y .before .before in
     let s = l .before .before .before .before .before .before .args in
-    (search needs, search needs, row-next (λ (i : ℕ). mutex-row i (mutex-in (s .state .mutexes) i) (chain (thread-in (s .state .chains .threads)) 32 (getD (s .state .chains .firsts) i 0))) _ _ (l .loop .m + 1) (s .state .m - l .loop .m) (l .loop .m + 1 + 1) (s .state .m - (l .loop .m + 1)) refl (omega arith) (rw (x .first-at .ensures, y .mutex-at .ensures) at (p .mutex-row .ensures)) ∙ l .loop .inv .2)
+    (search needs, search needs, row-next (λ (i : ℕ). mutex-row (touch-shown (s .touch)) i (mutex-in (s .state .mutexes) i) (chain (thread-in (s .state .chains .threads)) 32 (getD (s .state .chains .firsts) i 0))) _ _ (l .loop .m + 1) (s .state .m - l .loop .m) (l .loop .m + 1 + 1) (s .state .m - (l .loop .m + 1)) refl (omega arith) (rw (x .first-at .ensures, y .mutex-at .ensures) at (p .mutex-row .ensures)) ∙ l .loop .inv .2)
 
 returns : tie.Need-returns Inv-loop μ-loop
-returns c = let l = c .before in let s = l .before .before .before .before .before .before .args in sym (rows-end (λ (i : ℕ). mutex-row i (mutex-in (s .state .mutexes) i) (chain (thread-in (s .state .chains .threads)) 32 (getD (s .state .chains .firsts) i 0))) _ (l .loop .m + 1) (s .state .m - l .loop .m) (omega arith)) ∙ l .loop .inv .2
+returns c = let l = c .before in let s = l .before .before .before .before .before .before .args in sym (rows-end (λ (i : ℕ). mutex-row (touch-shown (s .touch)) i (mutex-in (s .state .mutexes) i) (chain (thread-in (s .state .chains .threads)) 32 (getD (s .state .chains .firsts) i 0))) _ (l .loop .m + 1) (s .state .m - l .loop .m) (omega arith)) ∙ l .loop .inv .2
 
 pub mutex-rows-spec : {M : Type 1} → statement M
 mutex-rows-spec =

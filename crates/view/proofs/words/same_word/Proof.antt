@@ -1,0 +1,10 @@
+-- `view::words::same_word` meets its contract.
+use borrow.Author.Needs.{needs}
+use Rattle.view.proofs.words.same_word.Statement.{statement}
+use Rattle.view.proofs.words.same_word.Tie as tie
+
+returns : tie.Need-returns
+returns c = rw (c .before .before .before .kind .ensures, c .before .before .number .ensures, c .before .kind2 .ensures, c .number2 .ensures)
+
+pub same-word-spec : {M : Type 1} → statement M
+same-word-spec = tie.close (tie.spec (λ c κs. search needs) (λ c κs. search needs) (λ c κs. search needs) (λ c κs. search needs) returns)
