@@ -16,14 +16,15 @@ use Rattle.reference.specs.Start.{Config, config-cause, start}
 use Rattle.reference.specs.Step.{Move, move-of, next, run, act, action-of, line, view, jump, put-back}
 use Rattle.reference.specs.Cause.{cause, accepted}
 use Rattle.reference.specs.Break.{step-breaks}
+use Rattle.reference.specs.Touch.{touch, line-touch, act-touch}
 use Rattle.reference.specs.Picture.{thread-entry, behind, picture, concat}
 use Rattle.reference.specs.Script.{script-ok, scripts-ok, scripts-cause, progress, turn-move, class-moves, class-answers, class-pictures}
 use Rattle.reference.specs.Session.{Opening, table, Request, move, turn, class, back, own, other, Call, Reply, bytes, moves, all-but-last, replays, left, replies}
 use Rattle.picture.specs.Picture.{written}
 use Rattle.picture.specs.Turns.{Answer as TurnsAhead, before, turns-ahead, ahead, answer}
-use Rattle.session.specs.Contract.{shown, config-of, answered, or-later, started, lent-refusal, standing, matches, test-refusal, move-refusal, moved, written-at, journal-after, undo-refusal, undone}
+use Rattle.session.specs.Contract.{shown, config-of, move-answered, or-later, started, lent-refusal, standing, matches, test-refusal, move-refusal, moved, written-at, journal-after, undo-refusal, undone}
 use Rattle.turns.specs.Contract.{turn-made, turn-refusal, turned, turn-journal, class-refusal, classed, class-journal, answers-after, pictures-after}
-use Rattle.claim.specs.Implementation.{Outcome, Pictured, Implementation, outcome, calls, contract}
+use Rattle.claim.specs.Implementation.{Outcome, Pictured, Implementation, move-outcome, calls, contract}
 use Rattle.claim.specs.Demand3.{Event, asked, held-after, responses, IsSession}
 use Rattle.claim.proofs.Sample.{ask, long, after-moves}
 
@@ -78,7 +79,7 @@ with-moved f =
     with-move
     (λ r j a.
     let o : Outcome = calls r j (move a) in
-    record { refusal = o .refusal; session = choose (eqb (o .refusal) 0) (f r a (o .session)) (o .session); journal = o .journal; buffers = [] })
+    record { refusal = o .refusal; session = choose (eqb (o .refusal) 0) (f r a (o .session)) (o .session); touch = o .touch; journal = o .journal; buffers = [] })
 
 -- the record after a move that does no more than stand its processor at line l
 abbrev pub only-jumps : Line → Session → Move → Session
@@ -91,7 +92,7 @@ only-jumps l r a =
 abbrev pub turn-by : Session → List ℕ → ℕ → Move → Outcome
 turn-by r j n a =
     let k : ℕ = or-later (test-refusal r j) (or-later n (move-refusal r j a)) in
-    outcome (answered k (moved r j a .session) r) (choose (eqb k 0) (journal-after r j a) j) []
+    move-outcome (move-answered k (moved r j a .session) r (touch (shown r) a)) (choose (eqb k 0) (journal-after r j a) j)
 
 -- its scripts' cause
 abbrev pub scripts-refusal : Session → List ℕ → ℕ
@@ -109,6 +110,7 @@ class-by f r j x ps a b =
     record {
       refusal = o .refusal;
       session = o .session;
+      touch = o .touch;
       journal = o .journal;
       buffers = answers-after r j x ps a b ∷ choose (eqb (o .refusal) 0) (with-front b (f (config-of r) x (standing r j) ps)) b ∷ [];
     }
@@ -159,5 +161,5 @@ byte i k e = ap (byte-of i k) e
 
 -- what the refutations compute with: to unfold this is to unfold all that its line names
 unfoldable pub computing : Unit {0}
-unfolding before turns-ahead ahead answer long unrelated responses asked held-after left replies IsSession config-cause started start tabulate those encode decode chain run next act line line-of cause action-of lent-refusal matches test-refusal after-moves replays all-but-last move-refusal moved journal-after undo-refusal undone step-breaks written-at bytes session-ok state-ok broken-rule fields-ok processor-ok mutex-ok thread-ok chains-ok chain-ok holders-ok zero-past each every no-twice find sum is thread-entry behind accepted moves same-state same-list script-ok scripts-ok progress turn-move turn-refusal turned turn-journal class-moves class-answers class-pictures class-refusal classed class-journal answers-after pictures-after written picture concat
+unfolding before turns-ahead ahead answer long unrelated responses asked held-after left replies IsSession config-cause started start tabulate those encode decode chain run next act line line-touch act-touch line-of cause action-of lent-refusal matches test-refusal after-moves replays all-but-last move-refusal moved journal-after undo-refusal undone step-breaks written-at bytes session-ok state-ok broken-rule fields-ok processor-ok mutex-ok thread-ok chains-ok chain-ok holders-ok zero-past each every no-twice find sum is thread-entry behind accepted moves same-state same-list script-ok scripts-ok progress turn-move turn-refusal turned turn-journal class-moves class-answers class-pictures class-refusal classed class-journal answers-after pictures-after written picture concat
 computing = tt

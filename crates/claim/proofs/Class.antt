@@ -15,6 +15,7 @@ use Rattle.reference.specs.Lists.{choose}
 use Rattle.reference.specs.Start.{Config, config-cause}
 use Rattle.reference.specs.Step.{Move}
 use Rattle.reference.specs.Script.{scripts-ok, scripts-cause, turned, turn-cause, turn-after, class-moves}
+use Rattle.reference.specs.Touch.{nothing, touch}
 use Rattle.reference.specs.Session.{Opening, opened, Request, class, turn, own, Reply, bytes, short, lacks-room, answer-to, fills, left}
 use Rattle.reference.proofs.Tests.{passed}
 use Rattle.reference.proofs.Laws.{safe}
@@ -26,17 +27,20 @@ use Rattle.claim.specs.Class.{TurnMoves, turns, done, ClassIs, Classes}
 use Rattle.claim.proofs.Numbers.{reply-is}
 use Rattle.claim.proofs.Leaves.{turn-passed, turn-session, turn-writes}
 use Rattle.claim.proofs.Demand3.{Stands, Reached, step-own, first-right, reached}
-use Rattle.session.specs.Contract.{moved}
+use Rattle.session.specs.Contract.{shown, moved}
+use Rattle.touch.specs.Association.{touch-shown, touch-record}
 
 -- ---- an accepted turn is its move
 
 pub turn-moves : TurnMoves contract
 unfolding contracts.turned moved
 turn-moves r j x p e =
+    let n = e ∙ sym (turn-passed r j x p e) in
     λ i.
     record {
-      refusal = (e ∙ sym (turn-passed r j x p e)) i;
+      refusal = n i;
       session = turn-session r j x p e i;
+      touch = touch-shown (touch-record (choose (eqb (n i) 0) (touch (shown r) (contracts.turn-made r j x p)) nothing));
       journal = turn-writes r j x p e i;
       buffers = [];
     }
@@ -95,7 +99,7 @@ module _ (o : Opening) (j : List ℕ) (e : contract .begin o j .refusal ≡ 0) (
   unfolding Reached
   holds = reached o j e es b .1 .holds
 
-  said : reply (calls (h .session) (h .journal) q) ≡ record { refusal = answer-to c (length (h .journal)) l q own; buffers = choose (eqb (answer-to c (length (h .journal)) l q own) 0) (fills c l q own) (answers ∷ pictures ∷ []) }
+  said : reply (calls (h .session) (h .journal) q) ≡ record { refusal = answer-to c (length (h .journal)) l q own; touch = choose (eqb (answer-to c (length (h .journal)) l q own) 0) nothing nothing; buffers = choose (eqb (answer-to c (length (h .journal)) l q own) 0) (fills c l q own) (answers ∷ pictures ∷ []) }
   said = reply-is c ok l (h .session) (h .journal) holds (length (h .journal)) refl own q
 
   free : answer-to c (length (h .journal)) l q own ≡ 0

@@ -3,23 +3,28 @@
 use Prim.Native.Nat.{ℕ, _*_, _≤_}
 use mathlib.Core.Bool.{not}
 use mathlib.Core.List.{List, [], _∷_, _++_}
-use mathlib.Core.Path.{_≡_, ap, _∙_, subst}
+use mathlib.Core.Path.{_≡_, refl, ap, _∙_, subst}
 use native.Mathlib.Omega.{arith}
+use lib.Dec.{eqb}
 use lib.ListN.{length, take, drop}
 use lib.Seq.{take-at}
 use borrow.Author.Tests.{eq-eqb, not-false}
 use Rattle.state.specs.declared.Session.{Session}
 use Rattle.state.specs.Association.{session-record}
-use Rattle.reference.specs.Lists.{with-front}
+use Rattle.reference.specs.Lists.{choose, with-front}
 use Rattle.reference.specs.Start.{Config, start}
 use Rattle.reference.specs.Step.{Move}
 use Rattle.reference.specs.Script.{scripts-cause, progress, turn-move, class-moves}
-use Rattle.reference.specs.Session.{own, Request, move, turn, class, back, bytes, turn-with, accept, state-of, lacks-room}
+use Rattle.reference.specs.State.{State}
+use Rattle.reference.specs.Touch.{Touch, nothing, touch}
+use Rattle.touch.specs.Association.{touch-shown, touch-record}
+use Rattle.touch.proofs.Agrees.{touch-back}
+use Rattle.reference.specs.Session.{own, Request, move, turn, class, back, bytes, turn-with, accept, touches, state-of, lacks-room}
 use Rattle.reference.proofs.Tests.{passed}
 use Rattle.reference.proofs.Fronts.{with-front-length, with-front-rest}
 use Rattle.reference.proofs.Moves.{accepted-length}
 use Rattle.reference.proofs.Script.{accepted-class}
-use Rattle.session.specs.Contract.{config-of, lent-refusal, standing, matches, test-refusal, move-refusal, moved, journal-after, undone}
+use Rattle.session.specs.Contract.{shown, config-of, lent-refusal, standing, matches, test-refusal, move-refusal, moved, journal-after, undone}
 use Rattle.session.proofs.Answers.{or-passed}
 use Rattle.session.proofs.Standing.{length-bytes}
 use Rattle.session.proofs.Holding.{Agree, agrees, move-agrees, undo-agrees, Leaves, move-leaves, undo-leaves}
@@ -106,3 +111,20 @@ module _ (r : Session) (j : List ℕ) (t : Agree r j) where
 pub leaves : (r : Session) (j : List ℕ) (q : Request) → calls r j q .refusal ≡ 0 →
     Leaves (config-of r) (accept (config-of r) (standing r j) q own) j (calls r j q .session) (calls r j q .journal)
 leaves r j q e = asked-leaves r j (calls-agree r j q e) q e
+
+-- and says the words that it touched
+module _ (r : Session) (j : List ℕ) where
+  -- accepted, a move or a turn says its own
+  accepted-words : (n : ℕ) (t : Touch) → n ≡ 0 → touch-shown (touch-record (choose (eqb n 0) t nothing)) ≡ t
+  accepted-words n t e = rw (eq-eqb n 0 e) (touch-back t)
+
+  calls-touch : Agree r j → (q : Request) → calls r j q .refusal ≡ 0 → calls r j q .touch ≡ touches (config-of r) (standing r j) q own
+  unfolding moved turned
+  calls-touch t (move a) e = accepted-words (move-refusal r j a) (touch (shown r) a) e ∙ ap (λ (s : State). touch s a) (t .state)
+  calls-touch t (turn x p) e =
+      accepted-words (turn-refusal r j x p) (touch (shown r) (turn-made r j x p)) e ∙ (λ i. touch (t .state i) (made-is r j t x p i))
+  calls-touch t (class x ps a b) e = refl
+  calls-touch t back e = refl
+
+  pub said : (q : Request) → calls r j q .refusal ≡ 0 → calls r j q .touch ≡ touches (config-of r) (standing r j) q own
+  said q e = calls-touch (calls-agree r j q e) q e

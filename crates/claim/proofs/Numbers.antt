@@ -13,7 +13,9 @@ use Rattle.reference.specs.Start.{Config, config-cause, start}
 use Rattle.reference.specs.Step.{Move}
 use Rattle.reference.specs.Cause.{cause}
 use Rattle.reference.specs.Script.{scripts-ok, scripts-cause, progress, turn-move, class-answers, class-pictures}
-use Rattle.reference.specs.Session.{Lent, own, other, Request, move, turn, class, back, moves, short, state-of, lent-length, lacks-room, mismatched, standing-in, turn-with, answer-to, reply-to}
+use Rattle.reference.specs.Touch.{nothing, touch}
+use Rattle.touch.proofs.Agrees.{touch-back}
+use Rattle.reference.specs.Session.{Lent, own, other, Request, move, turn, class, back, moves, short, state-of, lent-length, buffers-of, lacks-room, mismatched, standing-in, turn-with, fills, touches, answer-to, reply-to}
 use Rattle.session.specs.Contract.{lent-refusal, or-later, move-refusal, moved, standing, matches, undone}
 use Rattle.session.proofs.Standing.{moves-front}
 use Rattle.session.proofs.Holding.{Holds, shown-is, config-is, applied-held}
@@ -94,25 +96,27 @@ module _ (c : Config) (right : config-cause c ≡ 0) (ms : List Move) (r : Sessi
   number back =
       undo-number c right ms r j h lent ∙ (λ i. refuse (short-is t i) 10 (refuse (eqb (length ms) 0) 9 (refuse (mismatched-is t i) 16 0)))
 
+  -- the words that it touched
+  touch-is : (q : Request) → calls r lent q .touch ≡ choose (eqb (answer-to c size ms q t) 0) (touches c ms q t) nothing
+  unfolding moved turned
+  touch-is (move a) = touch-back _ ∙ (λ i. choose (eqb (number (move a) i) 0) (touch (shown-is c right ms r j h i) a) nothing)
+  touch-is (turn x p) = touch-back _ ∙ (λ i. choose (eqb (number (turn x p) i) 0) (touch (shown-is c right ms r j h i) (made-is x p i)) nothing)
+  touch-is (class x ps a b) = same-choice (eqb (answer-to c size ms (class x ps a b) t) 0) nothing
+  touch-is back = same-choice (eqb (answer-to c size ms back t) 0) nothing
+
   -- and the further buffers
-  pub reply-is : (q : Request) → reply (calls r lent q) ≡ reply-to c size ms q t
+  buffers-are : (q : Request) → calls r lent q .buffers ≡ choose (eqb (answer-to c size ms q t) 0) (fills c ms q t) (buffers-of q)
   unfolding answers-after pictures-after classed
-  reply-is (move a) = λ i. record { refusal = number (move a) i; buffers = same-choice {A = List (List ℕ)} (eqb (answer-to c size ms (move a) t) 0) [] i }
-  reply-is (turn x p) = λ i. record { refusal = number (turn x p) i; buffers = same-choice {A = List (List ℕ)} (eqb (answer-to c size ms (turn x p) t) 0) [] i }
-  reply-is back = λ i. record { refusal = number back i; buffers = same-choice {A = List (List ℕ)} (eqb (answer-to c size ms back t) 0) [] i }
-  reply-is (class x ps a b) =
+  buffers-are (move a) = same-choice {A = List (List ℕ)} (eqb (answer-to c size ms (move a) t) 0) []
+  buffers-are (turn x p) = same-choice {A = List (List ℕ)} (eqb (answer-to c size ms (turn x p) t) 0) []
+  buffers-are back = same-choice {A = List (List ℕ)} (eqb (answer-to c size ms back t) 0) []
+  buffers-are (class x ps a b) =
       let q : Request = class x ps a b in
       let n = number q in
       (λ i.
-      record {
-        refusal = n i;
-        buffers =
-            choose (eqb (n i) 0) (with-front a (class-answers (config-is c right ms r j h i) x (standing-is i) ps)) a ∷
-            choose (eqb (n i) 0) (with-front b (class-pictures (config-is c right ms r j h i) x (standing-is i) ps)) b ∷ [];
-      }) ∙
-      (λ i.
-      record {
-        refusal = answer-to c size ms q t;
-        buffers =
-            two-choices (eqb (answer-to c size ms q t) 0) (with-front a (class-answers c x (standing-in ms t) ps)) (with-front b (class-pictures c x (standing-in ms t) ps)) a b i;
-      })
+      choose (eqb (n i) 0) (with-front a (class-answers (config-is c right ms r j h i) x (standing-is i) ps)) a ∷
+      choose (eqb (n i) 0) (with-front b (class-pictures (config-is c right ms r j h i) x (standing-is i) ps)) b ∷ []) ∙
+      two-choices (eqb (answer-to c size ms q t) 0) (with-front a (class-answers c x (standing-in ms t) ps)) (with-front b (class-pictures c x (standing-in ms t) ps)) a b
+
+  pub reply-is : (q : Request) → reply (calls r lent q) ≡ reply-to c size ms q t
+  reply-is q = λ i. record { refusal = number q i; touch = touch-is q i; buffers = buffers-are q i }

@@ -13,6 +13,7 @@ use Rattle.reference.specs.Start.{Config, config-cause, start}
 use Rattle.reference.specs.Step.{Move, move-of, next, run, act, action-of, line}
 use Rattle.reference.specs.Cause.{cause, accepted}
 use Rattle.reference.specs.Script.{script-ok, scripts-ok, progress, turn-move, class-moves, class-answers}
+use Rattle.reference.specs.Touch.{nothing}
 use Rattle.reference.specs.Session.{Opening, scripted, Request, move, turn, class, back, own, other, Reply, bytes, moves, all-but-last, replays, replies}
 use Rattle.turns.specs.Contract as turns
 use Rattle.claim.specs.Implementation.{contract}
@@ -104,7 +105,7 @@ numbers-of (r ∷ rest) = r .refusal ∷ numbers-of rest
 
 -- the buffer for answers, as call i of the list leaves it
 abbrev pub answers-buffer : ℕ → List Reply → List ℕ
-answers-buffer i l = getD (getD l i (record { refusal = 0; buffers = [] }) .buffers) 0 []
+answers-buffer i l = getD (getD l i (record { refusal = 0; touch = nothing; buffers = [] }) .buffers) 0 []
 
 abbrev pub numbers : List ℕ
 numbers =

@@ -15,7 +15,7 @@ use Rattle.session.specs.Contract.{config-of, standing}
 use Rattle.session.proofs.Holding.{Agree, Holds, shown-is, applied-held, standing-is}
 use Rattle.claim.specs.Implementation.{contract, calls}
 use Rattle.claim.specs.Sound.{SoundCall, Sound}
-use Rattle.claim.proofs.Leaves.{calls-agree, leaves}
+use Rattle.claim.proofs.Leaves.{calls-agree, leaves, said}
 
 module _ (r : Session) (j : List ℕ) (q : Request) (e : calls r j q .refusal ≡ 0) where
   t : Agree r j
@@ -40,6 +40,7 @@ module _ (r : Session) (j : List ℕ) (q : Request) (e : calls r j q .refusal �
         legal-before = t .legal;
         state-before = t .state;
         made = stands;
+        touched = said r j q e;
         legal = ap (accepted (start c)) stands ∙ holds .legal;
         state = shown-is c (t .config) made _ _ holds ∙ sym (ap (run (start c)) stands);
         session = holds .shows ∙ sym (ap (λ (ms : List Move). session-record (run (start c) ms) (c .B)) stands);

@@ -17,6 +17,7 @@ use Rattle.reference.specs.Lists.{choose}
 use Rattle.reference.specs.State.{Line, CI2, L7, H2, H5, same-line, processor-at}
 use Rattle.reference.specs.Start.{Config, start}
 use Rattle.reference.specs.Step.{Move, move-of, run}
+use Rattle.reference.specs.Touch.{nothing}
 use Rattle.reference.specs.Session.{move, back, all-but-last}
 use Rattle.picture.specs.Turns.{Answer as TurnsAhead}
 use Rattle.session.specs.Contract.{shown, config-of, answered, or-later, lent-refusal, standing}
@@ -40,7 +41,7 @@ go p = move-of p 0 0
 -- ---- Every move is refused.
 
 refuses-all : Implementation
-refuses-all = with-move (λ r j a. record { refusal = 2; session = r; journal = j; buffers = [] })
+refuses-all = with-move (λ r j a. record { refusal = 2; session = r; touch = nothing; journal = j; buffers = [] })
 
 refuses-all-breaks-2 : ¬ (Demand2 refuses-all)
 unfolding refuses-all computing
@@ -205,7 +206,7 @@ refusal-changes-record =
     with-move
     (λ r j a.
     let o : Outcome = calls r j (move a) in
-    record { refusal = o .refusal; session = choose (eqb (o .refusal) 0) (o .session) (counted r); journal = o .journal; buffers = [] })
+    record { refusal = o .refusal; session = choose (eqb (o .refusal) 0) (o .session) (counted r); touch = o .touch; journal = o .journal; buffers = [] })
 
 refusal-changes-record-breaks-2 : ¬ (Demand2 refusal-changes-record)
 unfolding refusal-changes-record computing

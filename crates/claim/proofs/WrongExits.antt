@@ -12,9 +12,10 @@ use Rattle.reference.specs.Lists.{choose}
 use Rattle.reference.specs.State.{State, processor-at, mutex-at}
 use Rattle.reference.specs.Step.{Move, move-of, next, action-of}
 use Rattle.reference.specs.Cause.{is-exit, owns-none}
+use Rattle.reference.specs.Touch.{touch}
 use Rattle.reference.specs.Session.{Opening, table, move, turn, class}
-use Rattle.session.specs.Contract.{shown, answered, written-at}
-use Rattle.claim.specs.Implementation.{Outcome, Implementation, outcome, calls}
+use Rattle.session.specs.Contract.{shown, answered, move-answered, written-at}
+use Rattle.claim.specs.Implementation.{Outcome, Implementation, outcome, move-outcome, calls}
 use Rattle.claim.specs.Demand3.{Event, Demand3}
 use Rattle.claim.proofs.Sample.{ask, long}
 use Rattle.claim.proofs.Altered.{with-move, with-turn, with-class, with-own, number, byte, computing}
@@ -44,7 +45,7 @@ carries-out unseen =
     with-move
     (λ r j a.
     choose (eqb (calls r j (move a) .refusal) 21 && unseen (shown r) (a .processor))
-    (outcome (answered 0 (session-record (next (shown r) a) (r .initial)) r) (written-at (shown r .applied) a j) [])
+    (move-outcome (move-answered 0 (session-record (next (shown r) a) (r .initial)) r (touch (shown r) a)) (written-at (shown r .applied) a j))
     (calls r j (move a)))
 
 -- always, as before No. 9
@@ -82,7 +83,7 @@ owner-before-line =
     (λ r j a.
     let o : Outcome = calls r j (move a) in
     let owns : Bool = is-exit (action-of (a .action)) && not (owns-none (shown r) (processor-at (shown r) (a .processor) .current)) in
-    record { refusal = choose (owns && eqb (o .refusal) 4) 21 (o .refusal); session = o .session; journal = o .journal; buffers = [] })
+    record { refusal = choose (owns && eqb (o .refusal) 4) 21 (o .refusal); session = o .session; touch = o .touch; journal = o .journal; buffers = [] })
 
 -- the owner has called yield, and is at Y1
 owner-before-line-breaks-3 : ¬ (Demand3 owner-before-line)
@@ -99,7 +100,7 @@ spent-turn-passes =
     with-turn
     (λ r j x p.
     let o : Outcome = calls r j (turn x p) in
-    record { refusal = choose (eqb (o .refusal) 21) 0 (o .refusal); session = o .session; journal = o .journal; buffers = [] })
+    record { refusal = choose (eqb (o .refusal) 21) 0 (o .refusal); session = o .session; touch = o .touch; journal = o .journal; buffers = [] })
 
 spent-turn-passes-breaks-3 : ¬ (Demand3 spent-turn-passes)
 unfolding spent-turn-passes computing
@@ -121,7 +122,7 @@ spent-class-passes =
     with-class
     (λ r j x ps a b.
     let o : Outcome = calls r j (class x ps a b) in
-    record { refusal = o .refusal; session = o .session; journal = o .journal; buffers = answers-passed-over (o .buffers) })
+    record { refusal = o .refusal; session = o .session; touch = o .touch; journal = o .journal; buffers = answers-passed-over (o .buffers) })
 
 spent-class-passes-breaks-3 : ¬ (Demand3 spent-class-passes)
 unfolding passed-over answers-passed-over spent-class-passes computing

@@ -15,10 +15,11 @@ use Rattle.reference.specs.State.{State, processor-at}
 use Rattle.reference.specs.Start.{start}
 use Rattle.reference.specs.Step.{Move, move-of, next}
 use Rattle.reference.specs.Cause.{cause, accepted}
+use Rattle.reference.specs.Touch.{touch}
 use Rattle.reference.specs.Session.{Request, move, turn, other, Call, all-but-last}
-use Rattle.session.specs.Contract.{shown, config-of, answered, or-later, lent-refusal, standing, matches, written-at}
+use Rattle.session.specs.Contract.{shown, config-of, answered, move-answered, or-later, lent-refusal, standing, matches, written-at}
 use Rattle.turns.specs.Contract.{turn-made}
-use Rattle.claim.specs.Implementation.{Outcome, Implementation, outcome, calls}
+use Rattle.claim.specs.Implementation.{Outcome, Implementation, outcome, move-outcome, calls}
 use Rattle.claim.specs.Demand3.{Demand3}
 use Rattle.claim.specs.Sound.{Sound}
 use Rattle.claim.proofs.Sample.{long, after-moves}
@@ -27,7 +28,7 @@ use Rattle.claim.proofs.Altered.{with-move, with-turn, scripts-refusal,
 -- a move that is refused by k, made where k is 0
 made-unless : ℕ → Session → List ℕ → Move → Outcome
 made-unless k r j a =
-    outcome (answered k (session-record (next (shown r) a) (r .initial)) r) (choose (eqb k 0) (written-at (shown r .applied) a j) j) []
+    move-outcome (move-answered k (session-record (next (shown r) a) (r .initial)) r (touch (shown r) a)) (choose (eqb k 0) (written-at (shown r .applied) a j) j)
 
 -- 10, 15, then 16 where the test says so, then `first`, then the move's causes
 abbrev testing : Bool → ℕ → Session → List ℕ → Move → Outcome

@@ -36,6 +36,7 @@ script-advances-when-refused =
     record {
       refusal = o .refusal;
       session = o .session;
+      touch = o .touch;
       journal = choose (eqb (o .refusal) 0) (o .journal) (set j 11999 (suc (getD j 11999 0)));
       buffers = [];
     })
@@ -80,6 +81,7 @@ counts-turns-only =
     record {
       refusal = o .refusal;
       session = o .session;
+      touch = o .touch;
       journal = choose (eqb (o .refusal) 0 && at-app (shown r) p) (set (o .journal) (12000 - k) (suc (getD j (12000 - k) 0))) (o .journal);
       buffers = [];
     })

@@ -47,7 +47,7 @@ left-as j own k = k
 left-as j (other o) k = j
 
 abbrev pub reply : Outcome → Reply
-reply o = record { refusal = o .refusal; buffers = o .buffers }
+reply o = record { refusal = o .refusal; touch = o .touch; buffers = o .buffers }
 
 module _ (impl : Implementation) where
   -- what a call leaves
@@ -114,7 +114,7 @@ module _ (impl : Implementation) where
     highest = most config (length j) (opened o .listed) (asked es)
 
     pub record Agrees : Type 0 where
-      -- each move, turn, class and step back was answered as in the reference session, further buffers included,
+      -- each move, turn, class and step back was answered as in the reference session, the words that it touched and further buffers included,
       pub answered : responses impl (opening impl o j) es ≡ replies config (length j) (opened o .listed) (asked es)
       -- and so will be the next, whichever it is and whatever journal it is lent
       pub answers-next : (q : Call) → reply (gives impl held-at-end q) ≡ answer config (length j) listed q

@@ -12,7 +12,7 @@ use Rattle.reference.specs.Start.{Config, config-cause, start}
 use Rattle.reference.specs.Step.{Move, run}
 use Rattle.reference.specs.Cause.{accepted}
 use Rattle.reference.specs.Safe.{Safe}
-use Rattle.reference.specs.Session.{Request, own, bytes, accept}
+use Rattle.reference.specs.Session.{Request, own, bytes, accept, touches}
 use Rattle.session.specs.Contract.{shown, config-of, standing}
 use Rattle.claim.specs.Implementation.{Implementation, Outcome}
 
@@ -39,6 +39,8 @@ module _ (impl : Implementation) (r : Session) (j : List ℕ) (q : Request) wher
     pub state-before : shown r ≡ run (start table) before
     -- the moves that stand now: those, with what was asked made of them
     pub made : after ≡ accept table before q own
+    -- the words that it said are those of what was asked, in the state before it
+    pub touched : done .touch ≡ touches table before q own
     -- each was accepted when those before it had been made
     pub legal : accepted (start table) after ≡ true
     -- the state is the one that they give, and the record the one that shows it, with the B of the start table

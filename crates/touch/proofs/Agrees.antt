@@ -9,7 +9,7 @@ use native.Mathlib.Omega.{arith}
 use lib.Dec.{eqb}
 use borrow.Author.Tests.{eqb-true, ne-eqb}
 use Rattle.touch.specs.declared.Made.{Made}
-use Rattle.touch.specs.Association.{touch-record}
+use Rattle.touch.specs.Association.{word-shown, touch-shown, word-record, touch-record}
 use Rattle.touch.specs.model.Made.{ready-number, first-found, view-shown, act-seen, touch-of, made-of}
 use Rattle.state.specs.declared.State as declared
 use Rattle.state.specs.Record.{Sized}
@@ -27,7 +27,7 @@ use Rattle.reference.specs.State as reference
 use Rattle.reference.specs.Step.{View, view, works-on, Action, go, lock, trylock, unlock, yield, exit, create, action-of, Move, next}
 use Rattle.reference.specs.Cause.{cause}
 use Rattle.reference.specs.Safe.{In}
-use Rattle.reference.specs.Touch.{queue, ready, Touch, nothing, looks-at, changes, line-touch, act-touch, touch}
+use Rattle.reference.specs.Touch.{Word, none, count, token, queue, ready, birth, Touch, nothing, looks-at, changes, line-touch, act-touch, touch}
 use Rattle.reference.proofs.Same.{line-number}
 use Rattle.reference.proofs.Legal.{legal}
 use Rattle.association.proofs.Transfers.{number, works-there}
@@ -137,3 +137,15 @@ module _ (r : declared.State) (z : Sized r) (k : state-ok r ≡ true) (a : Move)
       ap (λ (m : Moved). made (m .refusal) (m .state) (choose (eqb (m .refusal) 0) (touch-of r (a .processor) (a .action) (a .operand)) nothing)) (moved-valid r z k a) ∙
       ap (made n (choose (eqb n 0) (encode (next (decode r) a)) r))
       (taken-if (eqb n 0) nothing (λ e. touch-valid (not-refused (decode r) a (eqb-true n 0 e) .0)))
+
+-- the words that the code's answer means
+word-back : (w : Word) → word-shown (word-record w) ≡ w
+word-back none = refl
+word-back (count m) = refl
+word-back (token m) = refl
+word-back (queue m) = refl
+word-back (ready q) = refl
+word-back (birth k) = refl
+
+pub touch-back : (t : Touch) → touch-shown (touch-record t) ≡ t
+touch-back t = λ i. record { reads = word-back (t .reads) i; writes = word-back (t .writes) i }
