@@ -8,7 +8,7 @@ use lib.Dec.{lit≤, leb, ltb}
 use lib.ListN.{length, take, drop, length-append}
 use lib.Seq.{take-at, take-all, length-take-le}
 use borrow.Author.Tests.{leb-true, leb-false, ltb-false, not-false}
-use Rattle.command.specs.Printing.{text, hundredths, line-feed, buffer-of, add}
+use Rattle.command.specs.Printing.{text, decimal, hundredths, line-feed, buffer-of, add}
 use Rattle.command.specs.Transcript.{Held}
 use Rattle.command.specs.Request.{Ask, plain, script, turn, turns, view, chart, mark, mark-own, help}
 use Rattle.command.specs.model.Request.{ask-of}
@@ -22,7 +22,11 @@ use Rattle.state.specs.declared.Session.{Session}
 use Rattle.state.specs.Rules.{session-ok}
 use Rattle.reference.specs.Lists.{if-zero}
 use Rattle.reference.specs.Start.{Config, config-cause, start}
-use Rattle.reference.specs.Step.{Move}
+use Rattle.reference.specs.Step as step
+use Rattle.reference.specs.Step.{move-of}
+use Rattle.reference.specs.Touch.{Word, none, count, token, queue, ready, birth, Touch}
+use Rattle.command.specs.declared.Command.{Command}
+use Rattle.command.specs.declared.Command.the-variants.{Start, StartWith, Move, Back, Show, Unknown}
 use Rattle.reference.specs.Cause.{accepted}
 use Rattle.reference.specs.Picture.{picture}
 use Rattle.reference.specs.Script.{turn-cause, turn-after}
@@ -30,7 +34,10 @@ use Rattle.reference.specs.Session.{picture-size, state-of, lacks-room}
 use Rattle.reference.proofs.Tests.{passed}
 use Rattle.reference.proofs.Script.{accepted-turn}
 use Rattle.shown.proofs.Kept.{state-kept, fields-say}
-use Rattle.session.specs.Contract.{config-of, standing, lent-refusal, matches}
+use Rattle.session.specs.Contract.{config-of, standing, lent-refusal, matches, moved, last-touched}
+use Rattle.touch.specs.Association.{touch-shown}
+use Rattle.view.specs.Words.{trimmed, word-at, kind-word, word-text, touch-text}
+use Rattle.command.specs.Command.{field}
 use Rattle.session.proofs.Answers.{or-passed, lent-passed}
 use Rattle.session.proofs.Undone.{state-right}
 use Rattle.session.proofs.Holding.{agrees}
@@ -40,12 +47,12 @@ use Rattle.shell.specs.Answers.{number, question-mark}
 use Rattle.shell.proofs.Responses as shell
 use Rattle.view.proofs.Sizes.{view-length}
 use Rattle.chart.proofs.Length.{chart-length}
-use Rattle.course.specs.Answers.{zeros, class-lines, class-text, mark-text, help-text}
+use Rattle.course.specs.Answers.{move-text, zeros, class-lines, class-text, mark-text, help-text}
 use Rattle.script.specs.Contract.{set-refusal}
 use Rattle.mark.specs.declared.Marked.{Marked}
 use Rattle.mark.specs.Mark.{marked, state-marked}
 use Rattle.course.proofs.Scripts.{zeros-long}
-use Rattle.course.specs.Program.{Context, response, after, course}
+use Rattle.course.specs.Program.{Context, plain-response, response, after, course}
 
 number-length : (n : ℕ) → length (number n) ≤ 4
 number-length n = simp length-append (omega (arith, decimal-length n))
@@ -56,11 +63,11 @@ number-length n = simp length-append (omega (arith, decimal-length n))
 small : (r : Session) → session-ok r ≡ true → picture-size (config-of r) ≤ 296
 small r ok = let f = fields-say (r .state) (state-kept (r .state) (state-right r ok) .fields) in omega (arith, f .p-range .1, f .t-range .1, f .m-range .1)
 
-lines-length : (c : Config) → config-cause c ≡ 0 → picture-size c ≤ 296 → (x ps : List ℕ) (ms : List Move) → accepted (start c) ms ≡ true → length (class-lines c x ms ps) ≤ 597 * length ps
+lines-length : (c : Config) → config-cause c ≡ 0 → picture-size c ≤ 296 → (x ps : List ℕ) (ms : List step.Move) → accepted (start c) ms ≡ true → length (class-lines c x ms ps) ≤ 597 * length ps
 unfolding class-lines
 lines-length c e s x [] ms ok = omega arith
 lines-length c e s x (p ∷ ps) ms ok =
-    let on : List Move = turn-after c x ms p in
+    let on : List step.Move = turn-after c x ms p in
     let ok′ = accepted-turn c x ms p ok in
     let long = picture-long c on e ok′ in
     simp length-append (omega (arith, decimal-length (turn-cause c x ms p), hex-length (picture (state-of c on)), lines-length c e s x ps on ok′))
@@ -101,13 +108,48 @@ help-length : length help-text ≤ 700000
 unfolding text
 help-length = lit≤ tt
 
+-- a number with the words
+numbered : (n : ℕ) (name : List ℕ) → length name ≤ 5 → length (name ++ field n) ≤ 9
+unfolding field
+numbered n name h =
+    let e : suc (length (decimal n)) ≤ 4 = omega (arith, decimal-length n) in
+    let f : length (field n) ≤ 4 = e in
+    omega (arith, f, length-append name (field n))
+
+word-length : (w : Word) → length (word-text w) ≤ 9
+unfolding word-text word-at trimmed text
+word-length none = lit≤ tt
+word-length (count m) = numbered m (kind-word 1) (lit≤ tt)
+word-length (token m) = numbered m (kind-word 2) (lit≤ tt)
+word-length (queue m) = numbered m (kind-word 3) (lit≤ tt)
+word-length (ready q) = numbered q (kind-word 4) (lit≤ tt)
+word-length (birth k) = numbered k (kind-word 5) (lit≤ tt)
+
+move-length : (n : ℕ) (t : Touch) → length (move-text n t) ≤ 40
+unfolding move-text touch-text text
+move-length zero t = simp length-append (omega (arith, decimal-length 0, word-length (t .reads), word-length (t .writes)))
+move-length (suc n) t = simp length-append (omega (arith, decimal-length (suc n)))
+
+plain-length : (k : Context) (c : Command) → length (plain-response k c) ≤ 700000
+unfolding plain-response
+plain-length k (Start p t m b) = omega (arith, shell.response-length (Start p t m b) (k .base))
+plain-length k (StartWith p t m b s) = omega (arith, shell.response-length (StartWith p t m b s) (k .base))
+plain-length k (Move p a o) =
+    let x = moved (k .base .session) (k .base .journal) (move-of p a o) in
+    choice-length (k .base .begun) _ question-mark (omega (arith, move-length (x .refusal) (touch-shown (x .touch)))) (omega arith)
+plain-length k Back = omega (arith, shell.response-length Back (k .base))
+plain-length k Show = omega (arith, shell.response-length Show (k .base))
+plain-length k Unknown = omega (arith, shell.response-length Unknown (k .base))
+
 response-length : (k : Context) (a : Ask) → length (response k a) ≤ 700000
 unfolding response
-response-length k (plain c) = omega (arith, shell.response-length c (k .base))
+response-length k (plain c) = plain-length k c
 response-length k (script i c) = choice-length (k .base .begun) _ question-mark (omega (arith, number-length (set-refusal (k .base .session .state .t) (k .scripts) i c))) (omega arith)
-response-length k (turn p) = choice-length (k .base .begun) _ question-mark (omega (arith, number-length (turned (k .base .session) (k .base .journal) (k .scripts) p .refusal))) (omega arith)
+response-length k (turn p) =
+    let x = turned (k .base .session) (k .base .journal) (k .scripts) p in
+    choice-length (k .base .begun) _ question-mark (omega (arith, move-length (x .refusal) (touch-shown (x .touch)))) (omega arith)
 response-length k (turns ps) = choice-length (k .base .begun) _ question-mark (omega (arith, class-text-length (k .base .session) (k .base .journal) (k .scripts) ps)) (omega arith)
-response-length k view = choice-length (k .base .begun) _ question-mark (omega (arith, view-length (k .base .session .state))) (omega arith)
+response-length k view = choice-length (k .base .begun) _ question-mark (omega (arith, view-length (k .base .session .state) (touch-shown (last-touched (k .base .session) (k .base .journal))))) (omega arith)
 response-length k chart = choice-length (k .base .begun) _ question-mark (omega (arith, chart-length (k .base .session) (k .base .journal))) (omega arith)
 response-length k (mark b c) = omega (arith, mark-length (marked b c))
 response-length k (mark-own c) = choice-length (k .base .begun) _ question-mark (omega (arith, mark-length (state-marked (k .base .session .state) c))) (omega arith)

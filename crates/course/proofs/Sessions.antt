@@ -1,6 +1,6 @@
 -- Whatever lines `course` reads, the session that it holds is one of demand 3.
 -- Assumes nothing.
-use Prim.Native.Nat.{ℕ, _*_, _≤_}
+use Prim.Native.Nat.{ℕ, zero, suc, _*_, _≤_}
 use mathlib.Core.Bool.{Bool, true, false, cond, not, _&&_}
 use mathlib.Core.List.{List, [], _∷_, _++_}
 use mathlib.Core.Logic.{_⊎_, inl, inr}
@@ -23,13 +23,14 @@ use Rattle.state.specs.Association.{encode, decode}
 use Rattle.reference.specs.Refusal.{bad-length, still-owner, refuse}
 use Rattle.reference.specs.Lists.{choose, if-zero}
 use Rattle.reference.specs.State.{State}
-use Rattle.reference.specs.Start.{Config, config-cause}
+use Rattle.reference.specs.Start.{Config, config-cause, start}
 use Rattle.reference.specs.Step as step-of
 use Rattle.reference.specs.Cause.{Facts, first-cause, facts, cause}
+use Rattle.reference.specs.Touch.{nothing, last-touch}
 use Rattle.reference.specs.Picture.{picture}
 use Rattle.reference.specs.Script.{scripts-ok}
 use Rattle.reference.specs.Session as reference
-use Rattle.reference.specs.Session.{Request, own, short, lacks-room, picture-size, state-of, answer-to}
+use Rattle.reference.specs.Session.{Request, Reply, touches, own, short, lacks-room, picture-size, state-of, answer-to}
 use Rattle.reference.proofs.Start.{ranges}
 use Rattle.reference.proofs.Laws.{safe}
 use Rattle.shown.proofs.Unique.{encode-sized}
@@ -37,7 +38,11 @@ use Rattle.picture.specs.Picture.{write-refusal}
 use Rattle.mark.specs.Mark as marks
 use Rattle.mark.specs.Mark.{mark-refusal, marked, state-marked}
 use Rattle.mark.proofs.Laws.{laws}
-use Rattle.session.specs.Contract.{config-of, table, started, standing, moved, undone}
+use Rattle.session.specs.Contract.{config-of, or-later, table, started, standing, test-refusal, moved, undone, last-touched}
+use Rattle.session.proofs.Numbers.{test-number, own-replays}
+use Rattle.touch.proofs.Agrees.{touch-back}
+use Rattle.view.specs.Table as view-of
+use Rattle.view.specs.Table.{view-text}
 use Rattle.session.proofs.Holding.{Holds, shown-is, config-is, standing-is}
 use Rattle.session.proofs.Shown.{state-right, state-back, picture-long, fits}
 use Rattle.turns.specs.Contract.{turned, class-refusal, classed}
@@ -50,8 +55,8 @@ use Rattle.claim.proofs.Fits.{held-then, session-then}
 use Rattle.claim.proofs.Demand3.{Reached, first-right, reached, demand3}
 use Rattle.shell.specs.Answers as shell
 use Rattle.shell.specs.Answers.{number, begun-by}
-use Rattle.course.specs.Answers.{zeros, class-lines, class-text, mark-text}
-use Rattle.course.specs.Program.{Context, started-with, starts, response, after, left-with, course}
+use Rattle.course.specs.Answers.{move-text, zeros, class-lines, class-text, mark-text}
+use Rattle.course.specs.Program.{Context, started-with, starts, plain-response, response, after, left-with, course}
 use Rattle.course.proofs.Scripts.{zeros-long}
 use Rattle.course.specs.Sessions.{after-lines, held-by, InSession, Answers, Lawful, Sessions}
 
@@ -273,7 +278,7 @@ module _ (n m : ℕ) (k : Context) (g : Kept n m k) (b : k .base .begun ≡ true
         (λ t. class-lines (config-is d good l r j shows t) (k .scripts) (standing-is d good l r j shows t) ps))
 
     to-show : response k (plain Show) ≡ hex (picture (state-of d l)) ++ line-feed
-    unfolding response shell.response shell.picture-text
+    unfolding response plain-response shell.response shell.picture-text
     to-show =
         let f = ranges d good in
         let small : picture-size d ≤ length (zeros 296) = omega (arith, zeros-long 296, f .processors .1, f .threads .1, f .mutexes .1) in
@@ -302,14 +307,40 @@ module _ (n m : ℕ) (k : Context) (g : Kept n m k) (b : k .base .begun ≡ true
         go true e size right wrong = rw (right (eqb-true (length c) (picture-size d) e ∙ sym size))
         go false e size right wrong = rw (wrong (λ q. eqb-false (length c) (picture-size d) e (q ∙ size)))
 
+    -- what a move, or a turn, is answered
+    to-answer : (q : Request) (z : ℕ) → answer-to d n l q own ≡ z → move-text (calls r j q .refusal) (calls r j q .touch) ≡ move-text z (touches d l q own)
+    unfolding move-text
+    to-answer q z e =
+        ap (λ (a : Reply). move-text (a .refusal) (a .touch)) (claim.reply-is d good l r j shows n (g .long) own q) ∙
+        ap (λ (y : ℕ). move-text y (choose (eqb y 0) (touches d l q own) nothing)) e ∙ by z
+      where
+        by : (y : ℕ) → move-text y (choose (eqb y 0) (touches d l q own) nothing) ≡ move-text y (touches d l q own)
+        by zero = refl
+        by (suc y) = refl
+
+    -- no later cause
+    alone : (z : ℕ) → or-later z 0 ≡ z
+    alone zero = refl
+    alone (suc z) = refl
+
+    to-view : response k view ≡ view-of.table (encode (state-of d l)) (last-touch (start d) l)
+    unfolding response view-text last-touched
+    to-view =
+        let passes : test-refusal r j ≡ 0 =
+        sym (alone (test-refusal r j)) ∙ test-number d good l r j shows j 0 ∙ rw (g .long, room, own-replays d good l r j shows) in
+        said _ _
+        ((λ i. view-text (shows .shows i .state) (touch-back (choose (eqb (passes i) 0) (last-touch (start (config-is d good l r j shows i)) (standing-is d good l r j shows i)) nothing) i)) ∙
+        rw (state-right d l good (shows .legal)))
+
     answers : Answers k d l
-    unfolding response shell.response moved undone turned
+    unfolding response plain-response shell.response moved undone turned
     answers =
         record {
-          to-move = λ p a o. said _ _ (ap number (numbered (reference.move (step-of.move-of p a o)) ∙ rw room));
+          to-move = λ p a o. said _ _ (to-answer (reference.move (step-of.move-of p a o)) _ (rw room));
+          to-view = to-view;
           to-back = said _ _ (ap number (numbered reference.back ∙ rw room));
           to-show = to-show;
-          to-turn = λ p. said _ _ (ap number (numbered (reference.turn (k .scripts) p) ∙ rw (room, order)));
+          to-turn = λ p. said _ _ (to-answer (reference.turn (k .scripts) p) _ (rw (room, order)));
           to-turns = to-turns;
           to-mark = to-mark;
         }

@@ -13,7 +13,9 @@ use Rattle.command.specs.declared.Command.{Command}
 use Rattle.command.specs.declared.Command.the-variants.{Start, StartWith, Move, Back, Show, Unknown}
 use Rattle.state.specs.declared.Session.{Session}
 use Rattle.script.specs.Contract.{set-refusal, scripts-after}
-use Rattle.session.specs.Contract.{table, started}
+use Rattle.session.specs.Contract.{table, started, moved, last-touched}
+use Rattle.touch.specs.Association.{touch-shown}
+use Rattle.reference.specs.Step.{move-of}
 use Rattle.turns.specs.Contract.{turned, turn-journal, classed, class-journal}
 use Rattle.view.specs.Table.{view-text}
 use Rattle.chart.specs.Chart.{chart-text}
@@ -21,7 +23,7 @@ use Rattle.mark.specs.Mark.{marked, state-marked}
 use Rattle.shell.specs.declared.Shell.{Shell}
 use Rattle.shell.specs.Answers as shell
 use Rattle.shell.specs.Answers.{number, question-mark}
-use Rattle.course.specs.Answers.{zeros, class-text, mark-text, help-text}
+use Rattle.course.specs.Answers.{move-text, zeros, class-text, mark-text, help-text}
 
 -- the session and the journal, as the stepper has them, and the threads' scripts
 pub record Context : Type 0 where
@@ -57,14 +59,29 @@ module _ (k : Context) where
   abbrev pub journal : List ℕ
   journal = k .base .journal
 
-  -- `script`: 0 or the refusal. `turn`: the same. `turns`: the class's lines. `view`: the table. `chart`: the chart. `mark`: the mark or the refusal; with two
-  -- pictures it needs no session.
+  -- a move: 0 and the words that it touched, or the refusal; the stepper's other lines as the stepper answers them
+  unfoldable pub plain-response : Command → List ℕ
+  plain-response (Move p a o) =
+      let x = moved session journal (move-of p a o) in
+      cond begun (move-text (x .refusal) (touch-shown (x .touch))) question-mark
+  plain-response (Start p t m b) = shell.response (Start p t m b) (k .base)
+  plain-response (StartWith p t m b c) = shell.response (StartWith p t m b c) (k .base)
+  plain-response Back = shell.response Back (k .base)
+  plain-response Show = shell.response Show (k .base)
+  plain-response Unknown = shell.response Unknown (k .base)
+
+  -- a turn is answered as its move is
+  abbrev pub turn-response : ℕ → List ℕ
+  turn-response p = let x = turned session journal (k .scripts) p in move-text (x .refusal) (touch-shown (x .touch))
+
+  -- `script`: 0 or the refusal. `turns`: the class's lines. `view`: the table, with the words marked that the last standing move touched. `chart`: the chart.
+  -- `mark`: the mark or the refusal; with two pictures it needs no session.
   unfoldable pub response : Ask → List ℕ
-  response (plain c) = shell.response c (k .base)
+  response (plain c) = plain-response c
   response (script i c) = cond begun (number (set-refusal (session .state .t) (k .scripts) i c)) question-mark
-  response (turn p) = cond begun (number (turned session journal (k .scripts) p .refusal)) question-mark
+  response (turn p) = cond begun (turn-response p) question-mark
   response (turns ps) = cond begun (class-text session journal (k .scripts) ps) question-mark
-  response view = cond begun (view-text (session .state)) question-mark
+  response view = cond begun (view-text (session .state) (touch-shown (last-touched session journal))) question-mark
   response chart = cond begun (chart-text session journal) question-mark
   response (mark b c) = mark-text (marked b c)
   response (mark-own c) = cond begun (mark-text (state-marked (session .state) c)) question-mark

@@ -10,10 +10,10 @@ use lib.Dec.{eqb}
 use lib.ListN.{length, take}
 use Rattle.command.specs.Printing.{hundredths, hex, line-feed}
 use Rattle.command.specs.Transcript.{Run}
-use Rattle.command.specs.Request.{plain, turn, turns, mark-own}
+use Rattle.command.specs.Request.{plain, turn, turns, view, mark-own}
 use Rattle.command.specs.model.Request.{ask-of}
 use Rattle.command.specs.declared.Command.the-variants.{Move, Back, Show}
-use Rattle.state.specs.Association.{session-record}
+use Rattle.state.specs.Association.{encode, session-record}
 use Rattle.reference.specs.Refusal.{nothing-applied, bad-length, still-owner, refuse}
 use Rattle.reference.specs.Lists.{choose}
 use Rattle.reference.specs.State.{State}
@@ -22,13 +22,16 @@ use Rattle.reference.specs.Step as step
 use Rattle.reference.specs.Cause.{cause, accepted}
 use Rattle.reference.specs.Safe.{Safe}
 use Rattle.reference.specs.Picture.{picture}
-use Rattle.reference.specs.Script.{turn-cause}
-use Rattle.reference.specs.Session.{table, Request, own, bytes, picture-size, state-of, answer}
+use Rattle.reference.specs.Touch.{touch, last-touch}
+use Rattle.reference.specs.Script.{turned, turn-cause}
+use Rattle.reference.specs.Session as session
+use Rattle.reference.specs.Session.{Request, own, bytes, picture-size, state-of, answer}
 use Rattle.mark.specs.Mark.{mark}
+use Rattle.view.specs.Table.{table}
 use Rattle.claim.specs.Implementation.{contract}
 use Rattle.claim.specs.Demand3.{Event, Held, reply, gives, IsSession, opening, held-at-end}
 use Rattle.shell.specs.Answers.{number}
-use Rattle.course.specs.Answers.{class-lines}
+use Rattle.course.specs.Answers.{move-text, class-lines}
 use Rattle.course.specs.Program.{Context, started-with, response, course}
 
 -- what the program holds after lines, one after the other
@@ -45,17 +48,19 @@ pub record InSession (h : Held) : Type 0 where
   pub config : Config
   pub first : List ℕ
   pub events : List Event
-  pub begins : contract .begin (table config) first .refusal ≡ 0
-  pub is-session : IsSession contract (opening contract (table config) first) events
-  pub leads : held-at-end contract (table config) first events ≡ h
+  pub begins : contract .begin (session.table config) first .refusal ≡ 0
+  pub is-session : IsSession contract (opening contract (session.table config) first) events
+  pub leads : held-at-end contract (session.table config) first events ≡ h
 
 -- what lines are answered where the moves `ms` stand
 pub record Answers (k : Context) (c : Config) (ms : List step.Move) : Type 0 where
-  pub to-move : (p a o : ℕ) → response k (plain (Move p a o)) ≡ number (cause (state-of c ms) (step.move-of p a o))
+  pub to-move : (p a o : ℕ) → let x = step.move-of p a o in response k (plain (Move p a o)) ≡ move-text (cause (state-of c ms) x) (touch (state-of c ms) x)
   pub to-back : response k (plain Back) ≡ number (refuse (eqb (length ms) 0) nothing-applied 0)
   pub to-show : response k (plain Show) ≡ hex (picture (state-of c ms)) ++ line-feed
-  pub to-turn : (p : ℕ) → response k (turn p) ≡ number (turn-cause c (k .scripts) ms p)
+  pub to-turn : (p : ℕ) → response k (turn p) ≡ move-text (turn-cause c (k .scripts) ms p) (touch (state-of c ms) (turned c (k .scripts) ms p))
   pub to-turns : (l ps : List ℕ) → ask-of l ≡ turns ps → response k (turns ps) ≡ class-lines c (k .scripts) ms ps
+  -- the words that the last standing move touched are marked
+  pub to-view : response k view ≡ table (encode (state-of c ms)) (last-touch (start c) ms)
   -- a candidate's picture against that of the moves' state; no refusal but that of its length
   pub to-mark : (b : List ℕ) → response k (mark-own b) ≡
       choose (eqb (length b) (picture-size c)) (hundredths (mark (picture (state-of c ms)) b) ++ line-feed) (number bad-length)

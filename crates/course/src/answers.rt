@@ -8,8 +8,11 @@ ghost use lib.ListN.{length, take, drop};
 ghost use Rattle.command.specs.Printing.{buffer-of, add};
 ghost use Rattle.command.specs.Request.{plain, script, turn, turns, view, chart, mark, mark-own, help, asked, count-in};
 ghost use Rattle.command.specs.model.Request.{ask-of};
+ghost use Rattle.command.specs.declared.Command.the-variants.{Move};
+ghost use Rattle.touch.specs.Association.{touch-shown};
 ghost use Rattle.session.specs.Contract.{table, started};
-ghost use Rattle.course.specs.Answers.{zeros, mark-text};
+ghost use Rattle.shell.specs.Answers as stepper;
+ghost use Rattle.course.specs.Answers.{move-text, zeros, mark-text};
 ghost use Rattle.course.specs.Program.{context-of, starts, response, after};
 use crate::class::class;
 use crate::help::put_help;
@@ -17,11 +20,14 @@ use command::Command;
 use command::printing::number_line;
 use command::printing::put;
 use command::printing::put_hundredths;
+use command::printing::put_number;
 use command::request::Request;
 use command::request::request_of;
 use mark::Marked;
 use shell::Reply;
 use shell::Shell;
+use touch::Touch;
+use view::words::put_touch;
 
 // All scripts become empty.
 fn clear(scripts: &mut [u8])
@@ -61,7 +67,34 @@ fn begins(command: Command) -> bool
     }
 }
 
-// A line of the stepper; an accepted start empties the scripts.
+// The number of a move or a turn, with the words that it touched where it is accepted.
+fn put_moved(out: &mut [u8], refusal: u8, touch: Touch) -> usize
+    ensures { λ r. ⌜ buffer-of (now (out .exit)) r ≡ add (buffer-of (now (out .entry)) 0) (move-text refusal (touch-shown touch)) ⌝ }
+{
+    if refusal != 0 {
+        return number_line(out, 0, refusal);
+    }
+    let end = put_number(out, 0, refusal);
+    let end = put_touch(out, end, touch);
+    put(out, end, b"\n")
+}
+
+fn move_line(shell: Shell, journal: &mut [u8], p: u8, a: u8, o: u8, out: &mut [u8]) -> Reply
+    requires { ⌜ shell .begun ≡ true ⌝ }
+    ensures { λ r. ⌜ ((x : List ℕ) → context-of (r .shell) (now (journal .exit)) x ≡ after (context-of shell (now (journal .entry)) x) (plain (Move p a o))) ⌝ }
+    ensures { λ r. ⌜ ((x : List ℕ) → buffer-of (now (out .exit)) (r .len) ≡ add (buffer-of (now (out .entry)) 0) (response (context-of shell (now (journal .entry)) x) (plain (Move p a o)))) ⌝ }
+{
+    let session = shell.session;
+    let answer = session::make_move(session, journal, p, a, o);
+    let left = answer.session;
+    let touch = answer.touch;
+    let mut next = shell;
+    next.session = left;
+    let len = put_moved(out, answer.refusal, touch);
+    Reply { shell: next, len }
+}
+
+// A line that the stepper answers too; an accepted start empties the scripts.
 fn stepper_line(
     shell: Shell,
     journal: &mut [u8],
@@ -70,10 +103,38 @@ fn stepper_line(
     out: &mut [u8],
 ) -> Reply
     ensures { λ r. ⌜ context-of (r .shell) (now (journal .exit)) (now (scripts .exit)) ≡ after (context-of shell (now (journal .entry)) (now (scripts .entry))) (plain command) ⌝ }
-    ensures { λ r. ⌜ buffer-of (now (out .exit)) (r .len) ≡ add (buffer-of (now (out .entry)) 0) (response (context-of shell (now (journal .entry)) (now (scripts .entry))) (plain command)) ⌝ }
+    ensures { λ r. ⌜ buffer-of (now (out .exit)) (r .len) ≡ add (buffer-of (now (out .entry)) 0) (stepper.response command (stepper.context-of shell (now (journal .entry)))) ⌝ }
 {
     clear_if(begins(command), scripts);
     shell::respond(shell, journal, command, out)
+}
+
+// A line of the stepper: a move also names its words.
+fn plain_line(
+    shell: Shell,
+    journal: &mut [u8],
+    scripts: &mut [u8],
+    command: Command,
+    out: &mut [u8],
+) -> Reply
+    requires { ⌜ shell .begun ≡ true ⌝ }
+    ensures { λ r. ⌜ context-of (r .shell) (now (journal .exit)) (now (scripts .exit)) ≡ after (context-of shell (now (journal .entry)) (now (scripts .entry))) (plain command) ⌝ }
+    ensures { λ r. ⌜ buffer-of (now (out .exit)) (r .len) ≡ add (buffer-of (now (out .entry)) 0) (response (context-of shell (now (journal .entry)) (now (scripts .entry))) (plain command)) ⌝ }
+{
+    match command {
+        Command::Start(p, t, m, b) => stepper_line(shell, journal, scripts, command, out),
+        Command::StartWith(p, t, m, b, stealing) => stepper_line(
+            shell,
+            journal,
+            scripts,
+            command,
+            out,
+        ),
+        Command::Move(p, a, o) => move_line(shell, journal, p, a, o, out),
+        Command::Back => stepper_line(shell, journal, scripts, command, out),
+        Command::Show => stepper_line(shell, journal, scripts, command, out),
+        Command::Unknown => stepper_line(shell, journal, scripts, command, out),
+    }
 }
 
 fn script_line(shell: Shell, scripts: &mut [u8], k: u8, calls: &[u8], out: &mut [u8]) -> Reply
@@ -96,9 +157,10 @@ fn turn_line(shell: Shell, journal: &mut [u8], scripts: &[u8], p: u8, out: &mut 
     let session = shell.session;
     let answer = turns::turn(session, journal, scripts, p);
     let left = answer.session;
+    let touch = answer.touch;
     let mut next = shell;
     next.session = left;
-    let len = number_line(out, 0, answer.refusal);
+    let len = put_moved(out, answer.refusal, touch);
     Reply { shell: next, len }
 }
 
@@ -124,14 +186,16 @@ fn turns_line(
     }
 }
 
-fn view_line(shell: Shell, out: &mut [u8]) -> Reply
+// The words that are marked are those of the last standing move.
+fn view_line(shell: Shell, journal: &[u8], out: &mut [u8]) -> Reply
     requires { ⌜ shell .begun ≡ true ⌝ }
     ensures { λ r. ⌜ r .shell ≡ shell ⌝ }
-    ensures { λ r. ⌜ ((j x : List ℕ) → buffer-of (now (out .exit)) (r .len) ≡ add (buffer-of (now (out .entry)) 0) (response (context-of shell j x) view)) ⌝ }
+    ensures { λ r. ⌜ ((x : List ℕ) → buffer-of (now (out .exit)) (r .len) ≡ add (buffer-of (now (out .entry)) 0) (response (context-of shell (now (journal .entry)) x) view)) ⌝ }
 {
     let session = shell.session;
     let state = session.state;
-    let len = view::view(out, 0, state);
+    let touch = session::last_touch(session, journal);
+    let len = view::view(out, 0, state, touch);
     Reply { shell, len }
 }
 
@@ -206,7 +270,7 @@ fn session_line(
     ensures { λ r. ⌜ buffer-of (now (out .exit)) (r .len) ≡ add (buffer-of (now (out .entry)) 0) (response (context-of shell (now (journal .entry)) (now (scripts .entry))) (asked request (now (numbers .entry)))) ⌝ }
 {
     match request {
-        Request::Plain(c) => stepper_line(shell, journal, scripts, c, out),
+        Request::Plain(c) => plain_line(shell, journal, scripts, c, out),
         Request::Script(k, n) => {
             let end = n as usize;
             script_line(shell, scripts, k, &numbers[..end], out)
@@ -216,7 +280,7 @@ fn session_line(
             let end = n as usize;
             turns_line(shell, journal, scripts, &numbers[..end], out)
         }
-        Request::View => view_line(shell, out),
+        Request::View => view_line(shell, journal, out),
         Request::Chart => chart_line(shell, journal, out),
         Request::Mark(n, m) => mark_line(shell, numbers, n, m, out),
         Request::MarkOwn(n) => own_mark_line(shell, numbers, n, out),

@@ -7,8 +7,9 @@ use lib.Dec.{eqb}
 use borrow.Author.Tests.{eq-eqb, ne-eqb}
 use Rattle.command.specs.Printing.{Buffer, add}
 use Rattle.session.specs.declared.Answer.{Answer}
+use Rattle.state.specs.declared.Session.{Session}
 use Rattle.shell.specs.declared.Shell.{Shell}
-use Rattle.shell.specs.Answers.{number, context-of, begun-by, answered}
+use Rattle.shell.specs.Answers.{number, context-of, begun-by, holding}
 
 pub chosen : {A : Type 0} (t : Bool) (x y z : A) → t ≡ true → z ≡ x → z ≡ cond t x y
 chosen t x y z e h = h ∙ sym (ap (λ (b : Bool). cond b x y) e)
@@ -25,16 +26,18 @@ line-passed-over t p q x y e h = h ∙ ap (λ (z : List ℕ). add q z) (passed-o
 
 -- ---- an answer's number, and what it leaves
 
-pub numbered : (a x : Answer) (p q : Buffer) → x ≡ a → p ≡ add q (number (x .refusal)) → p ≡ add q (number (a .refusal))
-numbered a x p q e h = h ∙ ap (λ (y : Answer). add q (number (y .refusal))) e
+pub numbered : (m n : ℕ) (p q : Buffer) → n ≡ m → p ≡ add q (number n) → p ≡ add q (number m)
+numbered m n p q e h = h ∙ ap (λ (k : ℕ). add q (number k)) e
 
-pub start-taken : (a x : Answer) (d : Shell) (j : List ℕ) → x ≡ a → x .refusal ≡ 0 → answered true x j ≡ begun-by a (context-of d j)
+pub start-taken : (a x : Answer) (d : Shell) (j : List ℕ) → x ≡ a → x .refusal ≡ 0 → holding true (x .session) j ≡ begun-by a (context-of d j)
 start-taken a x d j e z =
-    chosen (eqb (x .refusal) 0) (answered true x j) (context-of d j) (answered true x j) (eq-eqb (x .refusal) 0 z) refl ∙ ap (λ (y : Answer). begun-by y (context-of d j)) e
+    chosen (eqb (x .refusal) 0) (holding true (x .session) j) (context-of d j) (holding true (x .session) j) (eq-eqb (x .refusal) 0 z) refl ∙
+    ap (λ (y : Answer). begun-by y (context-of d j)) e
 
 pub start-refused : (a x : Answer) (d : Shell) (j : List ℕ) → x ≡ a → (x .refusal ≡ 0 → ⊥) → context-of d j ≡ begun-by a (context-of d j)
 start-refused a x d j e z =
-    passed-over (eqb (x .refusal) 0) (answered true x j) (context-of d j) (context-of d j) (ne-eqb (x .refusal) 0 z) refl ∙ ap (λ (y : Answer). begun-by y (context-of d j)) e
+    passed-over (eqb (x .refusal) 0) (holding true (x .session) j) (context-of d j) (context-of d j) (ne-eqb (x .refusal) 0 z) refl ∙
+    ap (λ (y : Answer). begun-by y (context-of d j)) e
 
-pub left : (begun : Bool) (a x : Answer) (i j : List ℕ) → x ≡ a → i ≡ j → answered begun x i ≡ answered begun a j
-left begun a x i j e h = ap₂ (λ (y : Answer) (k : List ℕ). answered begun y k) e h
+pub left : (begun : Bool) (r s : Session) (i j : List ℕ) → s ≡ r → i ≡ j → holding begun s i ≡ holding begun r j
+left begun r s i j e h = ap₂ (holding begun) e h

@@ -58,15 +58,15 @@ abbrev pub begun-by : Answer → Context → Context
 begun-by a k = cond (eqb (a .refusal) 0) (record { begun = true; session = a .session; journal = k .journal }) k
 
 -- a move or a step back leaves the record that it answers
-abbrev pub answered : Bool → Answer → List ℕ → Context
-answered begun a j = record { begun = begun; session = a .session; journal = j }
+abbrev pub holding : Bool → Session → List ℕ → Context
+holding begun r j = record { begun = begun; session = r; journal = j }
 
 -- what a line leaves; a refused move or step back answers the record that it was handed
 unfoldable pub after : Command → Context → Context
 after (Start p t m b) k = begun-by (started (table p t m b 0)) k
 after (StartWith p t m b c) k = begun-by (started (table p t m b c)) k
 after (Move p a o) k =
-    cond (k .begun) (answered (k .begun) (moved (k .session) (k .journal) (move-of p a o)) (journal-after (k .session) (k .journal) (move-of p a o))) k
-after Back k = cond (k .begun) (answered (k .begun) (undone (k .session) (k .journal)) (k .journal)) k
+    cond (k .begun) (holding (k .begun) (moved (k .session) (k .journal) (move-of p a o) .session) (journal-after (k .session) (k .journal) (move-of p a o))) k
+after Back k = cond (k .begun) (holding (k .begun) (undone (k .session) (k .journal) .session) (k .journal)) k
 after Show k = k
 after Unknown k = k

@@ -6,7 +6,7 @@ ghost use Prim.Native.Nat.{ℕ};
 ghost use Rattle.command.specs.Printing.{buffer-of, add};
 ghost use Rattle.reference.specs.Step.{move-of};
 ghost use Rattle.session.specs.Contract.{table, started, moved, journal-after, undone};
-ghost use Rattle.shell.specs.Answers.{number, context-of, question-mark, picture-text, begun-by, answered, response, after};
+ghost use Rattle.shell.specs.Answers.{number, context-of, question-mark, picture-text, begun-by, holding, response, after};
 use command::Command;
 use command::input::Input;
 use command::printing::hex_line;
@@ -102,7 +102,7 @@ fn start(shell: Shell, out: &mut [u8], p: u8, t: u8, m: u8, b: u8, stealing: u8)
 }
 
 fn step(shell: Shell, journal: &mut [u8], out: &mut [u8], p: u8, a: u8, o: u8) -> Reply
-    ensures { λ r. ⌜ context-of (r .shell) (now (journal .exit)) ≡ answered (shell .begun) (moved (shell .session) (now (journal .entry)) (move-of p a o)) (journal-after (shell .session) (now (journal .entry)) (move-of p a o)) ⌝ }
+    ensures { λ r. ⌜ context-of (r .shell) (now (journal .exit)) ≡ holding (shell .begun) (moved (shell .session) (now (journal .entry)) (move-of p a o) .session) (journal-after (shell .session) (now (journal .entry)) (move-of p a o)) ⌝ }
     ensures { λ r. ⌜ buffer-of (now (out .exit)) (r .len) ≡ add (buffer-of (now (out .entry)) 0) (number (moved (shell .session) (now (journal .entry)) (move-of p a o) .refusal)) ⌝ }
 {
     let session = shell.session;
@@ -115,7 +115,7 @@ fn step(shell: Shell, journal: &mut [u8], out: &mut [u8], p: u8, a: u8, o: u8) -
 }
 
 fn back(shell: Shell, journal: &[u8], out: &mut [u8]) -> Reply
-    ensures { λ r. ⌜ context-of (r .shell) (now (journal .entry)) ≡ answered (shell .begun) (undone (shell .session) (now (journal .entry))) (now (journal .entry)) ⌝ }
+    ensures { λ r. ⌜ context-of (r .shell) (now (journal .entry)) ≡ holding (shell .begun) (undone (shell .session) (now (journal .entry)) .session) (now (journal .entry)) ⌝ }
     ensures { λ r. ⌜ buffer-of (now (out .exit)) (r .len) ≡ add (buffer-of (now (out .entry)) 0) (number (undone (shell .session) (now (journal .entry)) .refusal)) ⌝ }
 {
     let session = shell.session;

@@ -1,9 +1,10 @@
 -- `course::answers::early_line` meets its contract.
 use mathlib.Core.Path.{ap, _∙_}
+use Rattle.command.specs.Printing.{buffer-of, add}
 use Rattle.shell.specs.declared.Shell.{Shell}
 use Rattle.shell.specs.Answers as shell
 use Rattle.course.specs.Program.{context-of, after}
-use Rattle.course.proofs.Lines.{in-context, early-left, early-text}
+use Rattle.course.proofs.Lines.{in-context, as-stepper, early-left, early-text}
 use borrow.Author.Needs.{needs}
 use Rattle.course.proofs.answers.early_line.Statement.{statement}
 use Rattle.course.proofs.answers.early_line.Tie as tie
@@ -15,7 +16,12 @@ returns : tie.Need-returns
 returns c =
     let l = c .before .before .before .before .before .before in
     let k = l .before .before .before .before .before in
-    rw (k .request .given .1) (l .stepper-line .ensures .0, l .stepper-line .ensures .1)
+    let s = k .before .before .before .before .before .before in
+    let a = s .args in
+    rw (k .request .given .1) (
+      l .stepper-line .ensures .0,
+      l .stepper-line .ensures .1 ∙ ap (add (buffer-of (a .out .now) 0)) (as-stepper (a .shell) (a .journal .now) (a .scripts .now) _ (λ t. s .pre .0)),
+    )
 
 returns-2 : tie.Need-returns-2
 returns-2 c =

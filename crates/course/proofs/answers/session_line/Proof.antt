@@ -31,7 +31,7 @@ returns : tie.Need-returns
 returns c =
     let l = c .before .before .before .before .before .before in
     let k = l .before .before .before .before .before in
-    rw (k .request .given .1) (l .stepper-line .ensures .0, l .stepper-line .ensures .1)
+    rw (k .request .given .1) (l .plain-line .ensures .0, l .plain-line .ensures .1)
 
 returns-2 : tie.Need-returns-2
 returns-2 c =
@@ -56,9 +56,9 @@ returns-5 : tie.Need-returns-5
 unfolding after
 returns-5 c =
     let l = c .before .before in
-    let k = l .before .before in
+    let k = l .before .before .before in
     let a = k .before .before .before .before .before .before .args in
-    rw (k .enum-told .given .1) (ap (λ (d : Shell). context-of d (a .journal .now) (a .scripts .now)) (l .view-line .ensures .0), l .view-line .ensures .1 (a .journal .now) (a .scripts .now))
+    rw (k .enum-told .given .1) (ap (λ (d : Shell). context-of d (a .journal .now) (a .scripts .now)) (l .view-line .ensures .0), l .view-line .ensures .1 (a .scripts .now))
 
 returns-6 : tie.Need-returns-6
 unfolding after
@@ -133,6 +133,7 @@ session-line-spec =
     (λ c. search needs)
     (λ c. search needs)
     returns-4
+    (λ c. search needs)
     (λ c. search needs)
     returns-5
     (λ c. search needs)

@@ -1,12 +1,10 @@
 -- `course::answers::stepper_line` meets its contract.
 use Rattle.course.proofs.Lines.{plain-left}
-use Rattle.course.specs.Program.{response}
 use borrow.Author.Needs.{needs}
 use Rattle.course.proofs.answers.stepper_line.Statement.{statement}
 use Rattle.course.proofs.answers.stepper_line.Tie as tie
 
 returns : tie.Need-returns
-unfolding response
 returns c =
     let r = c .before .before .before .before in
     let k = r .before .before .before .before .before in
