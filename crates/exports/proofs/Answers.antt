@@ -44,7 +44,7 @@ module _ (c : Config) (moves buffer : List ℕ) where
   table-refused (suc n) e h = kept (suc n) 0 (rw (← e)) h (rw (← e))
 
   module _ (right : config-cause c ≡ 0) (r : Replayed) (f : Replays c moves r) where
-    place-is : r .place ≡ replay-place c moves
+    pub place-is : r .place ≡ replay-place c moves
     unfolding replay-place
     place-is = rw (right, f .place)
 

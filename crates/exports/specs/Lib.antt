@@ -1,5 +1,6 @@
 -- What the functions that C programs call answer.
 pub mod Replay
+pub mod Words
 pub mod Turns
 pub mod Class
 pub mod model

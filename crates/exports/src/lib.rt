@@ -5,13 +5,18 @@ ghost use Rattle.session.specs.Contract.{table};
 ghost use Rattle.picture.specs.Picture.{read-refusal};
 ghost use Rattle.mark.specs.Mark.{answer};
 ghost use Rattle.exports.specs.Replay.{replay-refusal, replay-place, replay-buffer};
+ghost use Rattle.exports.specs.Words.{words-number, words-written};
 ghost use Rattle.exports.specs.Turns.{ahead-answer};
 ghost use Rattle.exports.specs.Class.{class-number, class-answered, class-pictured};
 
 mod replay;
+mod words;
 
 use crate::replay::replay;
+use crate::words::put_words;
 use picture::answer::Ahead;
+use state::State;
+use state::refusal::Refusal;
 
 // Turns ahead: a thread that does not wait, and what a refusal's number is added to.
 const NOT_WAITING: u8 = 100;
@@ -71,6 +76,43 @@ pub extern "C" fn humdayeg_replay_with(
     }
     let state = found.state;
     picture::write(state, picture)
+}
+
+// Replays moves as humdayeg_replay_with does, with the same places, and writes four bytes for each: kind and number of the word that it read, then of the
+// one that it wrote: 1, the number of the first refused move, or 10, else 0. Refused, no byte of the words is written.
+#[no_mangle]
+pub extern "C" fn humdayeg_words(
+    p: u8,
+    t: u8,
+    m: u8,
+    b: u8,
+    stealing: u8,
+    moves: &[u8],
+    words: &mut [u8],
+    place: &mut u32,
+) -> u8
+    ensures number { λ r. ⌜ r ≡ words-number (table p t m b stealing) (now (moves .entry)) (length (now (words .entry))) ⌝ }
+    ensures written { λ r. ⌜ now (words .exit) ≡ words-written (table p t m b stealing) (now (moves .entry)) (now (words .entry)) ⌝ }
+    ensures place { λ r. ⌜ now (place .exit) ≡ replay-place (table p t m b stealing) (now (moves .entry)) ⌝ }
+{
+    *place = 0;
+    let started = session::start(p, t, m, b, stealing);
+    let bad = started.refusal;
+    if bad != 0 {
+        return bad;
+    }
+    let replayed = replay(p, t, m, b, stealing, moves);
+    *place = replayed.place;
+    let number = replayed.refusal;
+    if number != 0 {
+        return number;
+    }
+    if words.len() / 4 < moves.len() / 3 {
+        return Refusal::TOO_SHORT;
+    }
+    let s = State::start(p, t, m, b, stealing);
+    put_words(s, moves, words);
+    0
 }
 
 // The number that reading a picture gets: 11, 12, 13 or 14, or 0.
