@@ -5,9 +5,11 @@ use crate::line::Line;
 use libc::STDOUT_FILENO;
 use picture::answer::Ahead;
 use session::Answer;
+use session::MoveAnswer;
 use state::Session;
 use state::State;
 use state::queues::get;
+use touch::Touch;
 
 fn text(bytes: &[u8]) {
     io::write_all(STDOUT_FILENO, bytes);
@@ -126,6 +128,34 @@ pub(crate) fn report(was: Session, answer: Answer, alike: bool) -> Session {
     report_then(was, answer, alike, b"\n")
 }
 
+// Prints the kind and the number of the word read, and of the word written.
+fn touched(touch: Touch) {
+    let reads = touch.reads;
+    let writes = touch.writes;
+    number(reads.kind() as u64, b" ");
+    number(reads.number() as u64, b" ");
+    number(writes.kind() as u64, b" ");
+    number(writes.number() as u64, b"\n");
+}
+
+// What a move or a turn answers: as others, then the words that it touched.
+pub(crate) fn report_move(was: Session, answer: MoveAnswer, alike: bool) -> Session {
+    let session = answer.session;
+    let touch = answer.touch;
+    let plain = Answer {
+        refusal: answer.refusal,
+        session,
+    };
+    let next = report_then(was, plain, alike, b" ");
+    touched(touch);
+    next
+}
+
+fn last_touched(session: Session, lent: isize, journal: &[u8]) {
+    let n = io::count(lent, journal);
+    touched(session::last_touch(session, &journal[..n]));
+}
+
 fn start(session: Session, line: Line) -> Session {
     let answer = session::start(
         line.byte(1),
@@ -146,7 +176,7 @@ fn make_move(session: Session, lent: isize, line: Line, journal: &mut [u8]) -> S
     let o = line.byte(3);
     let answer = session::make_move(session, &mut journal[..n], p, a, o);
     let alike = check::same(&before, journal);
-    report(session, answer, alike)
+    report_move(session, answer, alike)
 }
 
 // The move's refusal where byte i of the journal is raised for it, round from 255 to 0.
@@ -198,6 +228,7 @@ fn look(session: Session, lent: isize, line: Line, journal: &mut [u8], kept: &mu
         b'f' => front(session, lent, journal),
         b'p' => picture(session, room(line)),
         b'q' => ahead(session, line.byte(1)),
+        b'x' => last_touched(session, lent, journal),
         b'h' => number(hash(journal), b"\n"),
         b'j' => number(sweep(session, lent, line, journal), b"\n"),
         b'w' => put(journal, line.number(1) as usize, line.byte(2)),

@@ -5,6 +5,7 @@ use crate::calls::noise;
 use crate::calls::number;
 use crate::calls::put;
 use crate::calls::report;
+use crate::calls::report_move;
 use crate::calls::report_then;
 use crate::line::Line;
 use crate::line::low;
@@ -65,7 +66,7 @@ fn turn(session: Session, lent: Lent, line: Line, journal: &mut [u8], scripts: &
     let p = line.byte(1);
     let answer = turns::turn(session, &mut journal[..n], &scripts[..k], p);
     let alike = check::same(&before, journal);
-    report(session, answer, alike)
+    report_move(session, answer, alike)
 }
 
 // Prints also numbers that stand for all answers and pictures.
