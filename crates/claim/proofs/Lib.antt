@@ -14,4 +14,5 @@ pub mod WrongTurns
 pub mod WrongQueues
 pub mod WrongJournals
 pub mod WrongExits
+pub mod WrongWords
 pub mod Worked

@@ -1,4 +1,4 @@
--- The worked classes and the two journals, computed.
+-- The worked classes, the words and the two journals, computed.
 -- Assumes nothing.
 use Prim.Native.Nat.{ℕ}
 use mathlib.Core.Path.{_≡_, refl, ap}
@@ -7,9 +7,10 @@ use Rattle.reference.specs.Lists.{tabulate, those, find, sum, is, each}
 use Rattle.reference.specs.Start.{start}
 use Rattle.reference.specs.Step.{Move, next, run, act, action-of, line}
 use Rattle.reference.specs.Cause.{cause, accepted}
+use Rattle.reference.specs.Touch.{line-touch, act-touch, touched}
 use Rattle.reference.specs.Picture.{behind, thread-entry, concat, picture}
 use Rattle.reference.specs.Script.{progress, turn-move, class-moves, class-answers}
-use Rattle.claim.specs.Worked.{HandOff, SpentScript, SameRecord}
+use Rattle.claim.specs.Worked.{HandOff, SpentScript, touches-along, Words, SameRecord}
 
 pub hand-off : HandOff
 unfolding start tabulate those run next act line cause action-of progress turn-move class-moves class-answers find sum is each behind thread-entry concat picture
@@ -18,6 +19,10 @@ hand-off = record { answers = refl; moves = refl; waiting = refl; handed = (refl
 pub spent-script : SpentScript
 unfolding start tabulate those run next act line cause action-of progress turn-move class-moves class-answers each
 spent-script = record { answers = refl; waits = refl }
+
+pub words : Words
+unfolding start tabulate those run next act line line-touch act-touch touched cause action-of progress turn-move class-moves touches-along each
+words = record { hand-off = refl; token-offered = refl; round = refl; refused = (refl, refl) }
 
 pub same-record : SameRecord
 unfolding start tabulate those run next act line cause action-of accepted progress turn-move

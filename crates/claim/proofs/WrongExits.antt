@@ -14,8 +14,8 @@ use Rattle.reference.specs.Step.{Move, move-of, next, action-of}
 use Rattle.reference.specs.Cause.{is-exit, owns-none}
 use Rattle.reference.specs.Touch.{touch}
 use Rattle.reference.specs.Session.{Opening, table, move, turn, class}
-use Rattle.session.specs.Contract.{shown, answered, move-answered, written-at}
-use Rattle.claim.specs.Implementation.{Outcome, Implementation, outcome, move-outcome, calls}
+use Rattle.session.specs.Contract.{shown, move-answered, written-at}
+use Rattle.claim.specs.Implementation.{Outcome, Implementation, move-outcome, calls}
 use Rattle.claim.specs.Demand3.{Event, Demand3}
 use Rattle.claim.proofs.Sample.{ask, long}
 use Rattle.claim.proofs.Altered.{with-move, with-turn, with-class, with-own, number, byte, computing}

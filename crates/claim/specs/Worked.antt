@@ -1,5 +1,6 @@
--- Document 02, No. 7, worked on two processors with a thread each and one mutex: a class that goes through a hand-off, one in which a script leaves its thread an
--- owner, and two journals with the same record that call for different moves. Actions: 0 go, 1 lock, 3 unlock, 4 yield, 5 exit.
+-- Document 02, Nos. 7, 9 and 4, worked on two processors with a thread each and one mutex: a class that goes through a hand-off, one in which a script leaves its
+-- thread an owner, the words that moves touch, and two journals with the same record that call for different moves. Actions: 0 go, 1 lock, 3 unlock, 4 yield,
+-- 5 exit, 6 create.
 -- Assumes nothing.
 use Prim.Native.Nat.{ℕ}
 use mathlib.Core.Bool.{true}
@@ -8,8 +9,9 @@ use mathlib.Core.Path.{_≡_}
 use lib.ListN.{replicate}
 use Rattle.reference.specs.State.{State, Mutex, no-token, mutex-at}
 use Rattle.reference.specs.Start.{Config, start}
-use Rattle.reference.specs.Step.{Move, move-of, run}
+use Rattle.reference.specs.Step.{Move, move-of, next, run}
 use Rattle.reference.specs.Cause.{accepted}
+use Rattle.reference.specs.Touch.{count, token, queue, ready, birth, Touch, nothing, looks-at, changes, overwrites, touch, touched}
 use Rattle.reference.specs.Picture.{picture}
 use Rattle.reference.specs.Script.{progress, turned, class-moves, class-answers}
 
@@ -80,6 +82,35 @@ pub record SpentScript : Type 0 where
   pub answers : class-answers two lock-only [] left-owning ≡ 0 ∷ 0 ∷ 21 ∷ replicate 5 0 ++ 21 ∷ []
   -- thread 1 owns the mutex, and thread 2 waits
   pub waits : mutex-at (run (start two) (class-moves two lock-only [] left-owning)) 1 ≡ mutex 2 (2 ∷ []) 1
+
+-- ---- the words (No. 4)
+
+-- what each move of a list touches in the state before it
+unfoldable pub touches-along : State → List Move → List Touch
+touches-along s [] = []
+touches-along s (a ∷ rest) = touch s a ∷ touches-along (next s a) rest
+
+-- two processors with a ready queue each, and one thread, which processor 1 runs
+abbrev pub idle-second : Config
+idle-second = record { P = 2; T = 1; M = 1; B = 1; stealing = 1 }
+
+-- thread 1 owns and thread 2 is counted; 1 unlocks, and goes U1, H2 on an empty queue, H5, H6
+abbrev pub offered : List Move
+offered = move-of 1 1 1 ∷ go 1 ∷ move-of 2 1 1 ∷ go 2 ∷ move-of 1 3 1 ∷ go 1 ∷ go 1 ∷ go 1 ∷ go 1 ∷ []
+
+pub record Words : Type 0 where
+  -- the class above: both lock; L1, L1, L3, L4, L6; unlock, U1, H2, H3; exit; CI2 takes and CI2 idles, CI3; unlock, U1, CI2; exit, CI2, CI2
+  pub hand-off : touches-along (start two) (class-moves two both [] turns) ≡
+      nothing ∷ nothing ∷ changes (count 1) ∷ changes (count 1) ∷ nothing ∷ changes (queue 1) ∷ looks-at (token 1) ∷
+      nothing ∷ changes (count 1) ∷ changes (queue 1) ∷ changes (ready 1) ∷
+      nothing ∷ changes (ready 1) ∷ looks-at (ready 1) ∷ nothing ∷ nothing ∷ changes (count 1) ∷ looks-at (ready 1) ∷ nothing ∷ looks-at (ready 1) ∷ looks-at (ready 1) ∷ []
+  -- H2 finds nobody, H5 writes a token that it has not read, H6 looks again
+  pub token-offered : touches-along (start two) offered ≡
+      nothing ∷ changes (count 1) ∷ nothing ∷ changes (count 1) ∷ nothing ∷ changes (count 1) ∷ looks-at (queue 1) ∷ overwrites (token 1) ∷ looks-at (queue 1) ∷ []
+  -- a processor that idles looks at its own queue, at the other's, at its own again
+  pub round : touches-along (start idle-second) (go 2 ∷ go 2 ∷ go 2 ∷ []) ≡ looks-at (ready 2) ∷ looks-at (ready 1) ∷ looks-at (ready 2) ∷ []
+  -- a create that is refused touches nothing, though the thread's birth decides it
+  pub refused : (touch (start two) (move-of 1 6 2) ≡ changes (birth 2)) × (touched (start two) (move-of 1 6 2) ≡ nothing)
 
 -- ---- two journals
 

@@ -1,5 +1,4 @@
 -- `course::answers::move_line` meets its contract.
-use Rattle.reference.specs.Step.{move-of}
 use Rattle.course.proofs.Lines.{move-left, move-says}
 use borrow.Author.Needs.{needs}
 use Rattle.course.proofs.answers.move_line.Statement.{statement}

@@ -1,7 +1,5 @@
 -- `course::answers::put_moved` meets its contract.
-use mathlib.Core.List.{List}
 use mathlib.Core.Path.{ap, _∙_}
-use Prim.Native.Nat.{ℕ}
 use Rattle.command.specs.Printing.{buffer-of, add}
 use Rattle.command.proofs.Put.{then}
 use Rattle.touch.specs.Association.{touch-shown}

@@ -18,8 +18,8 @@ returns c =
     let a = s .args in (
       refl,
       (λ x.
-      line-chosen (a .shell .begun) _ _ _ _ (s .pre)
-      (c .before .before .view .ensures ∙ ap (λ (t : Touch). add (buffer-of (a .out .now) 0) (view-text (a .shell .session .state) (touch-shown t))) (l .last-touch .ensures))),
+          line-chosen (a .shell .begun) _ _ _ _ (s .pre)
+          (c .before .before .view .ensures ∙ ap (λ (t : Touch). add (buffer-of (a .out .now) 0) (view-text (a .shell .session .state) (touch-shown t))) (l .last-touch .ensures))),
     )
 
 pub view-line-spec : {M : Type 1} → statement M
