@@ -2,11 +2,13 @@
 mod words;
 
 ghost use mathlib.Core.Path.{_≡_};
+ghost use lib.Dec.{eqb};
 ghost use Rattle.state.specs.Record.{processor-of};
 ghost use Rattle.step.specs.model.Moves.{view-of};
 ghost use Rattle.touch.specs.Association.{touch-record, word-shown, kind, number};
+ghost use Rattle.reference.specs.Lists.{choose};
 ghost use Rattle.reference.specs.Touch.{nothing};
-ghost use Rattle.touch.specs.model.Made.{made-of};
+ghost use Rattle.touch.specs.model.Made.{touch-of, made-of};
 use state::State;
 use state::access::mutex_at;
 use state::queues::bytes_of;
@@ -93,6 +95,17 @@ fn seen(s: State, p: u8) -> View
     look(&firsts, &bytes, s.stealing, s.p, p, r, m, x)
 }
 
+// What a move that has been made from s touched: nothing where a number refused it.
+pub fn touched(refusal: u8, s: State, p: u8, action: u8, operand: u8) -> Touch
+    ensures { λ r. ⌜ r ≡ touch-record (choose (eqb refusal 0) (touch-of s p action operand) nothing) ⌝ }
+{
+    if refusal != 0 {
+        return Touch::nothing();
+    }
+    let v = seen(s, p);
+    words::act(v, action, operand)
+}
+
 // One move: refused, the state stays and nothing is touched.
 pub fn make(s: State, p: u8, action: u8, operand: u8) -> Made
     ensures { λ r. ⌜ r ≡ made-of s p action operand ⌝ }
@@ -100,17 +113,10 @@ pub fn make(s: State, p: u8, action: u8, operand: u8) -> Made
     let done = moved(s, p, action, operand);
     let refusal = done.refusal;
     let state = done.state;
-    if refusal != 0 {
-        return Made {
-            refusal,
-            state,
-            touch: Touch::nothing(),
-        };
-    }
-    let v = seen(s, p);
+    let touch = touched(refusal, s, p, action, operand);
     Made {
         refusal,
         state,
-        touch: words::act(v, action, operand),
+        touch,
     }
 }

@@ -13,9 +13,12 @@ use borrow.Author.Tests.{ne-eqb, lt-ltb, le-ltb, ltb-true, ltb-false}
 use Rattle.state.specs.declared.State.{State as Record}
 use Rattle.state.specs.declared.Session.{Session}
 use Rattle.state.specs.Record.{zero-session, processor-of, Sized}
+use Rattle.step.specs.declared.Moved.{Moved}
+use Rattle.step.specs.model.Moves.{moved-of}
+use Rattle.touch.specs.declared.Touch as code
 use Rattle.touch.specs.declared.Made as single
 use Rattle.touch.specs.Association.{touch-record}
-use Rattle.touch.specs.model.Made.{made-of}
+use Rattle.touch.specs.model.Made.{touch-of, made-of}
 use Rattle.session.specs.declared.Answer.{Answer}
 use Rattle.session.specs.declared.MoveAnswer.{MoveAnswer}
 use Rattle.reference.specs.Refusal.{refuse}
@@ -121,21 +124,36 @@ module _ (r : Session) (j x : List ℕ) (p : ℕ) where
         move-is : move-of p (t .action) (t .operand) ≡ a
         move-is = ap (λ (m : Made). move-of p (m .action) (m .operand)) made-is ∙ its-own (shown r) (progress-in r j) x p
 
-        -- the move that it makes, with its words
-        abbrev made : single.Made
-        made = record { refusal = t .refusal; state = t .state; touch = t .touch }
-
-        moved-is : made ≡ made-of (r .state) (a .processor) (a .action) (a .operand)
+        moved-is : record { refusal = t .refusal; state = t .state } ≡ moved-of (r .state) (a .processor) (a .action) (a .operand)
         moved-is =
-            ap (λ (m : Made). record { refusal = m .refusal; state = m .state; touch = m .touch }) made-is ∙
-            ap (λ (m : Move). made-of (r .state) (m .processor) (m .action) (m .operand)) (its-own (shown r) (progress-in r j) x p)
+            ap (λ (m : Made). record { refusal = m .refusal; state = m .state }) made-is ∙
+            ap (λ (m : Move). moved-of (r .state) (m .processor) (m .action) (m .operand)) (its-own (shown r) (progress-in r j) x p)
 
-        pub turn-answer : record { refusal = t .refusal; session = record { state = t .state; initial = r .initial }; touch = t .touch } ≡ turned r j x p
-        turn-answer = made-answer r j a size free made moved-is ∙ turn-moved
+        -- with the words that it touched
+        module _ (w : code.Touch) (w-is : w ≡ touch-record (choose (eqb (t .refusal) 0) (touch-of (r .state) p (t .action) (t .operand)) nothing)) where
+          abbrev made : single.Made
+          made = record { refusal = t .refusal; state = t .state; touch = w }
 
-        pub turn-journaled : choose (eqb (t .refusal) 0) (stored j (r .state .applied) (move-of p (t .action) (t .operand))) j ≡ turn-journal r j x p
-        turn-journaled =
-            ap (λ (m : Move). choose (eqb (t .refusal) 0) (stored j (r .state .applied) m) j) move-is ∙ made-journal r j a size free made moved-is ∙ turn-written
+          touched-is : made ≡ made-of (r .state) (a .processor) (a .action) (a .operand)
+          unfolding made-of
+          touched-is =
+              (λ i. record { refusal = t .refusal; state = t .state; touch = w-is i }) ∙
+              ap (λ (m : Move). with-words (record { refusal = t .refusal; state = t .state }) m) move-is ∙ ap (λ (m : Moved). with-words m a) moved-is
+            where
+              with-words : Moved → Move → single.Made
+              with-words m b =
+                  record {
+                    refusal = m .refusal;
+                    state = m .state;
+                    touch = touch-record (choose (eqb (m .refusal) 0) (touch-of (r .state) (b .processor) (b .action) (b .operand)) nothing);
+                  }
+
+          pub turn-answer : record { refusal = t .refusal; session = record { state = t .state; initial = r .initial }; touch = w } ≡ turned r j x p
+          turn-answer = made-answer r j a size free made touched-is ∙ turn-moved
+
+          pub turn-journaled : choose (eqb (t .refusal) 0) (stored j (r .state .applied) (move-of p (t .action) (t .operand))) j ≡ turn-journal r j x p
+          turn-journaled =
+              ap (λ (m : Move). choose (eqb (t .refusal) 0) (stored j (r .state .applied) m) j) move-is ∙ made-journal r j a size free made touched-is ∙ turn-written
 
 -- ---- class
 

@@ -18,9 +18,8 @@ use Rattle.shown.proofs.Kept.{state-kept, fields-say, processor-says, facts}
 use Rattle.shown.proofs.Regular.{regular-fits, allowed-regular}
 use Rattle.shown.proofs.Encode.{encode-decode, decode-allowed}
 use Rattle.shown.proofs.Unique.{encode-sized}
-use Rattle.step.specs.model.Moves.{noted}
-use Rattle.touch.specs.declared.Made as single
-use Rattle.touch.specs.model.Made.{made-of}
+use Rattle.step.specs.declared.Moved.{Moved}
+use Rattle.step.specs.model.Moves.{moved-of, noted}
 use Rattle.reference.specs.Lists.{choose, in-range, tabulate}
 use Rattle.reference.specs.State.{State, processor-at}
 use Rattle.reference.specs.Start.{Config, config-cause, start}
@@ -30,7 +29,7 @@ use Rattle.reference.specs.Script.{script-length, script-action, script-operand
 use Rattle.reference.proofs.Tests.{range-true}
 use Rattle.reference.proofs.Moves.{run-snoc}
 use Rattle.session.proofs.Shown.{state-right, state-back}
-use Rattle.session.proofs.Reached.{made-in, touched-reached}
+use Rattle.session.proofs.Reached.{moved-in, moved-reached}
 use Rattle.session.proofs.Counted.{calls-of, noted-more}
 use Rattle.turns.specs.declared.made.Made.{Made}
 use Rattle.turns.specs.model.Turn.{turn-of, made-by, turn-result}
@@ -78,21 +77,20 @@ its-own s made x p = by (at-app s p) (call-own (processor-at s p .current) (made
 
 -- ---- what the code puts together
 
-pub taken-made : (s : Record) (calls x : List ℕ) (p : ℕ) (m : Move) → m ≡ turn-of (processor-of s p) calls x p → (made : single.Made) → made ≡ made-of s p (m .action) (m .operand) →
+pub taken-made : (s : Record) (calls x : List ℕ) (p : ℕ) (m : Move) → m ≡ turn-of (processor-of s p) calls x p → (made : Moved) → made ≡ moved-of s p (m .action) (m .operand) →
     (counted : List ℕ) → counted ≡ choose (eqb (made .refusal) 0) (choose (eqb (m .action) 0) calls (noted calls (processor-of s p .current))) calls →
-    record { refusal = made .refusal; action = m .action; operand = m .operand; state = made .state; calls = counted; touch = made .touch } ≡ turn-result s calls x p
+    record { refusal = made .refusal; action = m .action; operand = m .operand; state = made .state; calls = counted } ≡ turn-result s calls x p
 unfolding turn-result
 taken-made s calls x p m e made is counted h =
-    (λ i. record { refusal = made .refusal; action = m .action; operand = m .operand; state = made .state; calls = h i; touch = made .touch }) ∙
+    (λ i. record { refusal = made .refusal; action = m .action; operand = m .operand; state = made .state; calls = h i }) ∙
     ap
-    (λ (q : single.Made).
+    (λ (q : Moved).
     record {
       refusal = q .refusal;
       action = m .action;
       operand = m .operand;
       state = q .state;
       calls = choose (eqb (q .refusal) 0) (choose (eqb (m .action) 0) calls (noted calls (processor-of s p .current))) calls;
-      touch = q .touch;
     })
     is ∙ ap (made-by s calls p) e
 
@@ -110,8 +108,8 @@ module _ (c : Config) (right : config-cause c ≡ 0) (ms : List Move) (ok : acce
       turn-is (encode s) (encode-sized s) (state-right c ms right ok) p (progress (start c) ms) x ∙
       ap (λ (e : State). turn-move e (progress (start c) ms) x p) (state-back c ms right ok)
 
-  made-is : made-of (encode s) p (a .action) (a .operand) ≡ made-in s a
-  made-is = touched-reached c ms right ok (move-of p (a .action) (a .operand)) ∙ ap (made-in s) (its-own s (progress (start c) ms) x p)
+  made-is : moved-of (encode s) p (a .action) (a .operand) ≡ moved-in s a
+  made-is = moved-reached c ms right ok (move-of p (a .action) (a .operand)) ∙ ap (moved-in s) (its-own s (progress (start c) ms) x p)
 
   pub record Turn (t : Made) : Type 0 where
     pub refusal : t .refusal ≡ turn-cause c x ms p
@@ -135,12 +133,12 @@ module _ (c : Config) (right : config-cause c ≡ 0) (ms : List Move) (ok : acce
   taken-turn : Turn (made-by (encode s) (calls-of c ms) p a)
   taken-turn =
       record {
-        refusal = ap (λ (m : single.Made). m .refusal) made-is;
+        refusal = ap (λ (m : Moved). m .refusal) made-is;
         move = its-own s (progress (start c) ms) x p;
-        state = ap (λ (m : single.Made). m .state) made-is ∙ after-state (eqb (cause s a) 0) refl;
+        state = ap (λ (m : Moved). m .state) made-is ∙ after-state (eqb (cause s a) 0) refl;
         calls =
             ap
-            (λ (m : single.Made).
+            (λ (m : Moved).
             choose (eqb (m .refusal) 0) (choose (eqb (a .action) 0) (calls-of c ms) (noted (calls-of c ms) (processor-of (encode s) p .current))) (calls-of c ms))
             made-is ∙
             after-calls (eqb (cause s a) 0) refl;

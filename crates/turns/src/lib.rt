@@ -17,6 +17,7 @@ use session::test_journal;
 use state::Session;
 use state::State;
 use state::refusal::Refusal;
+use touch::touched;
 
 // Begins a session whose threads have scripts: P processors, T threads, M mutexes, B threads created at first; stealing as in session::start.
 pub fn start(p: u8, t: u8, m: u8, b: u8, stealing: u8, scripts: &[u8]) -> Answer
@@ -61,9 +62,9 @@ pub fn turn(session: Session, journal: &mut [u8], scripts: &[u8], p: u8) -> Move
             done.action,
             done.operand,
         );
+        let touch = touched(done.refusal, state, p, done.action, done.operand);
         let state = done.state;
         let initial = session.initial;
-        let touch = done.touch;
         return MoveAnswer {
             refusal: done.refusal,
             session: Session { state, initial },

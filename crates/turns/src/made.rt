@@ -8,17 +8,15 @@ use state::Position;
 use state::Processor;
 use state::State;
 use step::calls::note_move;
-use touch::Touch;
-use touch::make;
+use step::moves::moved;
 
-// Why the turn's move is refused, or 0; the move's action and operand; the state and the calls after it; what it touched.
+// Why the turn's move is refused, or 0; the move's action and operand; the state and the calls after it.
 pub(crate) struct Made {
     pub refusal: u8,
     pub action: u8,
     pub operand: u8,
     pub state: State,
     pub calls: [u16; 33],
-    pub touch: Touch,
 }
 
 // The move of processor p, which is r: at App the next call of its current thread, elsewhere go.
@@ -38,25 +36,23 @@ fn turn_move(r: Processor, calls: [u16; 33], scripts: &[u8], p: u8) -> Move
     }
 }
 
-// A turn of processor p; refused, state and calls stay and nothing is touched.
+// A turn of processor p; refused, state and calls stay.
 pub(crate) fn make_turn(state: State, calls: [u16; 33], scripts: &[u8], p: u8) -> Made
     ensures { λ r. ⌜ r ≡ turn-result state calls (now (scripts .entry)) p ⌝ }
 {
     let mut calls = calls;
     let r = state.processor(p);
     let a = turn_move(r, calls, scripts, p);
-    let made = make(state, p, a.action, a.operand);
+    let made = moved(state, p, a.action, a.operand);
     if made.refusal == 0 {
         note_move(&mut calls, a.action, r.current);
     }
     let state = made.state;
-    let touch = made.touch;
     Made {
         refusal: made.refusal,
         action: a.action,
         operand: a.operand,
         state,
         calls,
-        touch,
     }
 }

@@ -28,9 +28,11 @@ returns-2 c =
     let free = sym (tested-number _ _ (test .result) (test .ensures)) ∙ g .if1 .left in
     let ok = sym (i .before .scripts-ok .ensures) ∙ i .if2 .taken in
     let size = session-sized (start .good .0) in
-    let calls = ap (λ (t : Tested). t .calls) (test .ensures) in (
-      turn-answer (a .session) (a .journal .now) (a .scripts .now) (a .p) free ok size _ calls (done .result) (done .ensures),
-      c .before .before .before .before .keep-move .ensures ∙ turn-journaled (a .session) (a .journal .now) (a .scripts .now) (a .p) free ok size _ calls (done .result) (done .ensures),
+    let calls = ap (λ (t : Tested). t .calls) (test .ensures) in
+    let w = c .before .touched in (
+      turn-answer (a .session) (a .journal .now) (a .scripts .now) (a .p) free ok size _ calls (done .result) (done .ensures) (w .result) (w .ensures),
+      c .before .before .before .before .keep-move .ensures ∙
+      turn-journaled (a .session) (a .journal .now) (a .scripts .now) (a .p) free ok size _ calls (done .result) (done .ensures) (w .result) (w .ensures),
     )
 
 returns-3 : tie.Need-returns-3
@@ -50,6 +52,7 @@ turn-spec =
     (λ c κs. search needs)
     (λ c. search needs)
     returns
+    (λ c κs. search needs)
     (λ c κs. search needs)
     (λ c κs. search needs)
     (λ c κs. search needs)

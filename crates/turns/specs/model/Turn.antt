@@ -11,8 +11,7 @@ use Rattle.state.specs.declared.State.{State}
 use Rattle.state.specs.declared.Session.{Session}
 use Rattle.state.specs.Association.{encode}
 use Rattle.state.specs.Record.{processor-of}
-use Rattle.step.specs.model.Moves.{noted}
-use Rattle.touch.specs.model.Made.{made-of}
+use Rattle.step.specs.model.Moves.{moved-of, noted}
 use Rattle.reference.specs.Lists.{choose, tabulate, with-front}
 use Rattle.reference.specs.Step.{Move, move-of}
 use Rattle.reference.specs.Script.{next-call, class-answers, class-pictures}
@@ -27,14 +26,14 @@ turn-of r calls x p = choose (eqb (r .position) 0) (next-call x p (r .current) (
 -- processor p makes the move; accepted, a call is counted
 abbrev pub made-by : State → List ℕ → ℕ → Move → Made
 made-by s calls p a =
-    let m = made-of s p (a .action) (a .operand) in
     record {
-      refusal = m .refusal;
+      refusal = moved-of s p (a .action) (a .operand) .refusal;
       action = a .action;
       operand = a .operand;
-      state = m .state;
-      calls = choose (eqb (m .refusal) 0) (choose (eqb (a .action) 0) calls (noted calls (processor-of s p .current))) calls;
-      touch = m .touch;
+      state = moved-of s p (a .action) (a .operand) .state;
+      calls =
+          choose (eqb (moved-of s p (a .action) (a .operand) .refusal) 0)
+          (choose (eqb (a .action) 0) calls (noted calls (processor-of s p .current))) calls;
     }
 
 unfoldable pub turn-result : State → List ℕ → List ℕ → ℕ → Made

@@ -17,17 +17,17 @@ use Rattle.turns.proofs.made.make_turn.Tie as tie
 
 returns : tie.Need-returns
 returns c =
-    let a = c .before .before .before .before .before .before .before .before .args in
-    let read = c .before .before .before .before .before .before .processor in
-    let turn = c .before .before .before .before .before .turn-move in
-    let made = c .before .before .before .before .make in
+    let a = c .before .before .before .before .before .before .before .args in
+    let read = c .before .before .before .before .before .processor in
+    let turn = c .before .before .before .before .turn-move in
+    let made = c .before .before .before .moved in
     let m = move-in (turn .result) in
     let more : List ℕ = choose (eqb (m .action) 0) (a .calls) (noted (a .calls) (processor-of (a .state) (a .p) .current)) in
-    let counted : c .before .before .if1 .calls ≡ choose (eqb (made .result .refusal) 0) more (a .calls) =
+    let counted : c .before .if1 .calls ≡ choose (eqb (made .result .refusal) 0) more (a .calls) =
     ⊎-elim
     (λ w. w .4 ∙ w .2 .ensures ∙ rw (read .ensures, eq-eqb (made .result .refusal) 0 (w .0 .taken)))
-    (λ w. w .1 ∙ rw (ne-eqb (made .result .refusal) 0 (w .0 .left))) (c .before .before .if1 .came) in
-    taken-made (a .state) (a .calls) (a .scripts .now) (a .p) m (turn .ensures ∙ rw (read .ensures)) (made .result) (made .ensures) (c .before .before .if1 .calls) counted
+    (λ w. w .1 ∙ rw (ne-eqb (made .result .refusal) 0 (w .0 .left))) (c .before .if1 .came) in
+    taken-made (a .state) (a .calls) (a .scripts .now) (a .p) m (turn .ensures ∙ rw (read .ensures)) (made .result) (made .ensures) (c .before .if1 .calls) counted
 
 pub make-turn-spec : {M : Type 1} → statement M
 make-turn-spec =
