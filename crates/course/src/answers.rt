@@ -213,9 +213,9 @@ fn chart_line(shell: Shell, journal: &[u8], out: &mut [u8]) -> Reply
 fn put_marked(out: &mut [u8], found: Marked) -> usize
     ensures { λ r. ⌜ buffer-of (now (out .exit)) r ≡ add (buffer-of (now (out .entry)) 0) (mark-text found) ⌝ }
 {
-    let refusal = found.refusal;
-    if refusal != 0 {
-        return number_line(out, 0, refusal);
+    let number = found.refusal;
+    if number != 0 {
+        return number_line(out, 0, number);
     }
     let end = put_hundredths(out, 0, found.mark);
     put(out, end, b"\n")

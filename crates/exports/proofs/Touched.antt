@@ -19,14 +19,15 @@ use Rattle.state.specs.Association.{encode}
 use Rattle.state.specs.model.Access.{start-record}
 use Rattle.state.proofs.Started.{start-shown}
 use Rattle.touch.specs.declared.Made.{Made}
-use Rattle.touch.specs.Association.{word-shown, touch-shown, word-record, touch-record, touch-bytes}
+use Rattle.touch.specs.Association.{touch-shown, touch-bytes}
 use Rattle.touch.specs.model.Made.{made-of}
+use Rattle.touch.proofs.Agrees.{touch-back}
 use Rattle.reference.specs.Lists.{if-zero, with-front}
 use Rattle.reference.specs.State.{State}
 use Rattle.reference.specs.Start.{Config, config-cause, start}
 use Rattle.reference.specs.Step.{Move, next, run}
 use Rattle.reference.specs.Cause.{cause, accepted}
-use Rattle.reference.specs.Touch.{Word, none, count, token, queue, ready, birth, Touch, touch, touched}
+use Rattle.reference.specs.Touch.{touch, touched}
 use Rattle.reference.specs.Session.{moves}
 use Rattle.reference.proofs.Tests.{both}
 use Rattle.reference.proofs.Legal.{accepted-cons}
@@ -93,17 +94,6 @@ module _ (s : Record) (j w₀ : List ℕ) where
         }
 
 -- ---- the reference machine's words
-
-word-back : (w : Word) → word-shown (word-record w) ≡ w
-word-back none = refl
-word-back (count m) = refl
-word-back (token m) = refl
-word-back (queue m) = refl
-word-back (ready q) = refl
-word-back (birth k) = refl
-
-touch-back : (t : Touch) → touch-shown (touch-record t) ≡ t
-touch-back t = λ i. record { reads = word-back (t .reads) i; writes = word-back (t .writes) i }
 
 touched-is : (s : State) (a : Move) → cause s a ≡ 0 → touched s a ≡ touch s a
 unfolding touched

@@ -32,7 +32,7 @@ returns-2 c =
     let w = c .before .touched in (
       turn-answer (a .session) (a .journal .now) (a .scripts .now) (a .p) free ok size _ calls (done .result) (done .ensures) (w .result) (w .ensures),
       c .before .before .before .before .keep-move .ensures ∙
-      turn-journaled (a .session) (a .journal .now) (a .scripts .now) (a .p) free ok size _ calls (done .result) (done .ensures) (w .result) (w .ensures),
+          turn-journaled (a .session) (a .journal .now) (a .scripts .now) (a .p) free ok size _ calls (done .result) (done .ensures) (w .result) (w .ensures),
     )
 
 returns-3 : tie.Need-returns-3
