@@ -32,7 +32,7 @@ use Rattle.step.proofs.Put.{carried-first, carried-bytes, length-firsts
 
 -- ---- what a move sees
 
-pub seen-view : (s : State) (p m : ℕ) (b : List ℕ) (r : Processor) (x : Mutex) → b ≡ bytes-of (s .chains .threads) → r ≡ processor-of s p → x ≡ mutex-of s m →
+seen-view : (s : State) (p m : ℕ) (b : List ℕ) (r : Processor) (x : Mutex) → b ≡ bytes-of (s .chains .threads) → r ≡ processor-of s p → x ≡ mutex-of s m →
     seen-of (s .chains .firsts) b (s .stealing) (s .p) p r m x ≡ view-of s p m
 seen-view s p m b r x b-is r-is x-is =
     rw (b-is, r-is, x-is, taken-bytes (s .chains) m, taken-bytes (s .chains) (index-of (s .stealing) (s .p) p (processor-of s p)))

@@ -66,7 +66,7 @@ fn on_ring(n: u8, p: u8, l: u8) -> u8
 }
 
 // The index of the ready queue that processor p of n, which is r, works on.
-fn index_of(stealing: u8, n: u8, p: u8, r: Processor) -> u8
+pub fn index_of(stealing: u8, n: u8, p: u8, r: Processor) -> u8
     ensures { λ q. ⌜ q ≡ index-of stealing n p r ⌝ }
 {
     if stealing == 0 {
@@ -76,7 +76,7 @@ fn index_of(stealing: u8, n: u8, p: u8, r: Processor) -> u8
 }
 
 // What processor p of n, which is r, sees of mutex m, which is x, and of the queues.
-pub fn look(
+pub(crate) fn look(
     firsts: &[u8],
     threads: &[u8],
     stealing: u8,

@@ -1,16 +1,17 @@
 -- What the code says that a move touches is what the reference machine's move touches.
 -- Assumes nothing.
 use Prim.Native.Nat.{ℕ, _+_, _-_}
-use mathlib.Core.Bool.{true}
+use mathlib.Core.Bool.{true, not}
 use mathlib.Core.List.{List, [], _∷_}
 use mathlib.Core.Path.{_≡_, refl, ap, subst, _∙_}
 use native.Mathlib.Decide.{ℕ-discrete}
 use native.Mathlib.Omega.{arith}
 use lib.Dec.{eqb}
 use borrow.Author.Tests.{eqb-true, ne-eqb}
+use Rattle.touch.specs.declared.Sight.{Sight}
 use Rattle.touch.specs.declared.Made.{Made}
 use Rattle.touch.specs.Association.{word-shown, touch-shown, word-record, touch-record}
-use Rattle.touch.specs.model.Made.{ready-number, first-found, view-shown, act-seen, touch-of, made-of}
+use Rattle.touch.specs.model.Made.{ready-number, sight-of, some-queue, view-shown, act-seen, touch-of, made-of}
 use Rattle.state.specs.declared.State as declared
 use Rattle.state.specs.Record.{Sized}
 use Rattle.state.specs.Association.{encode, decode, queue-at}
@@ -20,7 +21,7 @@ use Rattle.state.proofs.Branch.{if-none, if-some}
 use Rattle.state.proofs.Numbers.{queue-mutex}
 use Rattle.step.specs.declared.View as code
 use Rattle.step.specs.declared.Moved.{Moved}
-use Rattle.step.specs.model.Moves.{view-of}
+use Rattle.step.specs.model.Moves.{nothing-there, view-of}
 use Rattle.reference.specs.Lists.{choose, if-empty}
 use Rattle.reference.specs.State.{State, Processor, Line, App, CI2, CI3, L1, L3, L4, L6, L7, L8, L9, L10, TL1, GT1, GT3, TL3, U1, H2, H3, H5, H6, H8, Y1, Y2, Y3, C2, processor-at, mutex-at}
 use Rattle.reference.specs.State as reference
@@ -38,7 +39,7 @@ use Rattle.agreement.proofs.Causes.{mutex-shows, view-shows}
 use Rattle.agreement.proofs.Moved.{refusal, not-refused, taken-if, moved-valid}
 
 -- a line asks of a queue only whether it is empty
-same-branch : (a b : Touch) (l o : List ℕ) → o ≡ l → if-empty (first-found (found o)) a (λ x rest. b) ≡ if-empty l a (λ x rest. b)
+same-branch : (a b : Touch) (l o : List ℕ) → o ≡ l → if-empty (some-queue (not (nothing-there (found o)))) a (λ x rest. b) ≡ if-empty l a (λ x rest. b)
 same-branch a b [] o e = rw e
 same-branch a b (x ∷ l) o e = rw e
 
@@ -49,8 +50,8 @@ module _ (s : State) (g : Regular s) (p : ℕ) (rp : In (s .P) p) where
   abbrev m : ℕ
   m = r .mutex
 
-  abbrev c : code.View
-  c = seen s p m
+  abbrev c : Sight
+  c = sight-of (seen s p m)
 
   -- the ready queue by its number
   ready-is : ready-number (number s p) ≡ works-on s p
@@ -109,9 +110,9 @@ module _ (s : State) (h : Allowed s) (a : Move) where
   touch-shows e =
       let p : ℕ = a .processor in
       let rp : In (s .P) p = legal s a e .processor in
-      ap (λ (k : ℕ). act-seen (a .action) (a .operand) (view-of (encode s) p k)) (mutex-shows s (regular-fits s g) p) ∙
-      ap (act-seen (a .action) (a .operand)) (view-shows s g p (processor-at s p .mutex) rp) ∙
-      ap (λ (q : ℕ). act-touch (action-of (a .action)) (a .operand) (processor-at s p .mutex) q (view-shown (seen s p (processor-at s p .mutex)))) (ready-is s g p rp) ∙
+      ap (λ (k : ℕ). act-seen (a .action) (a .operand) (sight-of (view-of (encode s) p k))) (mutex-shows s (regular-fits s g) p) ∙
+      ap (λ (v : code.View). act-seen (a .action) (a .operand) (sight-of v)) (view-shows s g p (processor-at s p .mutex) rp) ∙
+      ap (λ (q : ℕ). act-touch (action-of (a .action)) (a .operand) (processor-at s p .mutex) q (view-shown (sight-of (seen s p (processor-at s p .mutex))))) (ready-is s g p rp) ∙
       act-same s g p rp (works-on s p) (action-of (a .action)) (a .operand)
 
 abbrev made : ℕ → declared.State → Touch → Made

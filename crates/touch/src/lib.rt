@@ -8,12 +8,13 @@ ghost use Rattle.step.specs.model.Moves.{view-of};
 ghost use Rattle.touch.specs.Association.{touch-record, word-shown, kind, number};
 ghost use Rattle.reference.specs.Lists.{choose};
 ghost use Rattle.reference.specs.Touch.{nothing};
-ghost use Rattle.touch.specs.model.Made.{touch-of, made-of};
+ghost use Rattle.touch.specs.model.Made.{sight-of, touch-of, made-of};
+use state::Mutex;
+use state::Processor;
 use state::State;
 use state::access::mutex_at;
-use state::queues::bytes_of;
-use step::View;
-use step::moves::look;
+use state::chain::first_at;
+use step::moves::index_of;
 use step::moves::moved;
 
 // A shared word: the count, the token or the queue of a mutex, a ready queue (the single one is 1), the birth of a thread, or none. The owner is no word.
@@ -80,19 +81,37 @@ impl Word {
     }
 }
 
+// What a processor sees of the shared words: its number, its registers, its mutex, whether a thread is in that mutex's queue and in the ready queue that it works
+// on, and that ready queue's index.
+pub(crate) struct Sight {
+    pub number: u8,
+    pub proc: Processor,
+    pub mutex: Mutex,
+    pub waiting: bool,
+    pub ready: bool,
+    pub index: u8,
+}
+
 // What processor p sees where it stands.
-fn seen(s: State, p: u8) -> View
-    ensures { λ v. ⌜ v ≡ view-of s p (processor-of s p .mutex) ⌝ }
+fn seen(s: State, p: u8) -> Sight
+    ensures { λ v. ⌜ v ≡ sight-of (view-of s p (processor-of s p .mutex)) ⌝ }
 {
     let r = s.processor(p);
-    let m = r.mutex;
     let mutexes = s.mutexes;
-    let x = mutex_at(mutexes, m);
+    let x = mutex_at(mutexes, r.mutex);
     let chains = s.chains;
     let firsts = chains.firsts;
-    let threads = chains.threads;
-    let bytes = bytes_of(threads);
-    look(&firsts, &bytes, s.stealing, s.p, p, r, m, x)
+    let index = index_of(s.stealing, s.p, p, r);
+    let waiting = first_at(firsts, r.mutex) != 0;
+    let ready = first_at(firsts, index) != 0;
+    Sight {
+        number: p,
+        proc: r,
+        mutex: x,
+        waiting,
+        ready,
+        index,
+    }
 }
 
 // What a move that has been made from s touched: nothing where a number refused it.

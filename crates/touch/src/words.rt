@@ -1,16 +1,15 @@
 // The words that a line or a call touches, from what its processor sees before it.
 ghost use mathlib.Core.Path.{_≡_};
-ghost use mathlib.Core.Bool.{true, false, not};
-ghost use Rattle.step.specs.model.Moves.{token, same-tokens, nothing-there};
+ghost use mathlib.Core.Bool.{true, false};
+ghost use Rattle.step.specs.model.Moves.{token, same-tokens};
 ghost use Rattle.touch.specs.declared.Word.the-variants as case;
 ghost use Rattle.touch.specs.Association.{touch-record};
 ghost use Rattle.touch.specs.model.Made.{touching, ready-number, line-seen, act-seen};
+use crate::Sight;
 use crate::Touch;
 use crate::Word;
 use state::Position;
 use state::Token;
-use state::queues::Taken;
-use step::View;
 use step::registers::same;
 
 // The word is read, and written where the test holds.
@@ -44,16 +43,6 @@ fn overwrites(w: Word) -> Touch
     }
 }
 
-// A queue's first is taken; an empty queue is only looked at.
-fn takes(queue: Taken, w: Word) -> Touch
-    ensures { λ r. ⌜ r ≡ touching (not (nothing-there queue)) w ⌝ }
-{
-    match queue {
-        Taken::Nothing => looks_at(w),
-        Taken::Thread(_, _) => changes(w),
-    }
-}
-
 // The single ready queue, whose index is 0, is 1; that of processor p has index 8 + p.
 fn ready_number(index: u8) -> u8
     ensures { λ r. ⌜ r ≡ ready-number index ⌝ }
@@ -65,7 +54,7 @@ fn ready_number(index: u8) -> u8
 }
 
 // The token is cleared where it is the one that was observed.
-fn claims(v: View) -> Touch
+fn claims(v: Sight) -> Touch
     ensures { λ r. ⌜ r ≡ touching (same-tokens (v .mutex .token) (v .proc .observed)) (case.Token (v .proc .mutex)) ⌝ }
 {
     let r = v.proc;
@@ -74,7 +63,7 @@ fn claims(v: View) -> Touch
 }
 
 // The token is cleared where it is the one that this processor made.
-fn takes_back(v: View) -> Touch
+fn takes_back(v: Sight) -> Touch
     ensures { λ r. ⌜ r ≡ touching (same-tokens (v .mutex .token) (token (v .number) (v .proc .sequence))) (case.Token (v .proc .mutex)) ⌝ }
 {
     let r = v.proc;
@@ -87,18 +76,16 @@ fn takes_back(v: View) -> Touch
 }
 
 // The line at which the processor stands.
-fn line(v: View) -> Touch
+fn line(v: Sight) -> Touch
     ensures { λ r. ⌜ r ≡ touch-record (line-seen v) ⌝ }
 {
     let r = v.proc;
     let x = v.mutex;
-    let queue = v.queue;
-    let ready = v.ready;
     let m = r.mutex;
     let q = ready_number(v.index);
     let position = r.position;
     match position {
-        Position::CI2 => takes(ready, Word::Ready(q)),
+        Position::CI2 => touching(v.ready, Word::Ready(q)),
         Position::CI3 => Touch::nothing(),
         Position::L1 => changes(Word::Count(m)),
         Position::L3 => Touch::nothing(),
@@ -106,14 +93,14 @@ fn line(v: View) -> Touch
         Position::L6 => looks_at(Word::Token(m)),
         Position::L7 => looks_at(Word::Queue(m)),
         Position::L8 => claims(v),
-        Position::L9 => takes(queue, Word::Queue(m)),
+        Position::L9 => touching(v.waiting, Word::Queue(m)),
         Position::L10 => Touch::nothing(),
         Position::TL1 => touching(x.count == 0, Word::Count(m)),
         Position::GT1 => looks_at(Word::Token(m)),
         Position::GT3 => claims(v),
         Position::TL3 => changes(Word::Count(m)),
         Position::U1 => changes(Word::Count(m)),
-        Position::H2 => takes(queue, Word::Queue(m)),
+        Position::H2 => touching(v.waiting, Word::Queue(m)),
         Position::H3 => changes(Word::Ready(q)),
         Position::H5 => overwrites(Word::Token(m)),
         Position::H6 => looks_at(Word::Queue(m)),
@@ -127,7 +114,7 @@ fn line(v: View) -> Touch
 }
 
 // Of the calls a create touches its thread's birth; the others touch nothing.
-pub(crate) fn act(v: View, action: u8, operand: u8) -> Touch
+pub(crate) fn act(v: Sight, action: u8, operand: u8) -> Touch
     ensures { λ r. ⌜ r ≡ touch-record (act-seen action operand v) ⌝ }
 {
     match action {

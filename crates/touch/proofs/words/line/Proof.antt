@@ -1,11 +1,11 @@
 -- `touch::words::line` meets its contract: each arm is the table's line.
 -- Assumes nothing.
 use Prim.Native.Nat.{ℕ}
-use mathlib.Core.Bool.{true, false, not}
+use mathlib.Core.Bool.{true, false}
 use mathlib.Core.Path.{refl, ap, _∙_, sym}
 use Rattle.reference.specs.State.{Line, App, lines, line-of}
 use Rattle.reference.specs.Touch.{count, token, queue, ready, line-touch}
-use Rattle.step.specs.model.Moves.{nothing-there, same-tokens}
+use Rattle.step.specs.model.Moves.{same-tokens}
 use Rattle.step.specs.model.Moves as moves
 use Rattle.step.proofs.Match.{rest}
 use Rattle.touch.specs.declared.Word.the-variants.{Ready}
@@ -18,7 +18,7 @@ use Rattle.touch.proofs.words.line.Tie as tie
 
 returns : tie.Need-returns
 unfolding line-of line-touch
-returns c = let v = c .before .before .before .before .before .args .v in c .takes .ensures ∙ ap (λ (k : ℕ). touching (not (nothing-there (v .ready))) (Ready k)) (c .before .before .ready-number .ensures) ∙ by-queue (v .ready) (ready (ready-number (v .index))) ∙ at-line v 1 (c .before .match .keys1)
+returns c = let v = c .before .before .before .before .before .args .v in c .touching .ensures ∙ ap (λ (k : ℕ). touching (v .ready) (Ready k)) (c .before .before .ready-number .ensures) ∙ by-queue (v .ready) (ready (ready-number (v .index))) ∙ at-line v 1 (c .before .match .keys1)
 
 returns-2 : tie.Need-returns-2
 unfolding line-of line-touch
@@ -50,7 +50,7 @@ returns-8 c = let v = c .before .before .before .before .before .args .v in c .c
 
 returns-9 : tie.Need-returns-9
 unfolding line-of line-touch
-returns-9 c = let v = c .before .before .before .before .before .args .v in c .takes2 .ensures ∙ by-queue (v .queue) (queue (v .proc .mutex)) ∙ at-line v 9 (c .before .match .keys9)
+returns-9 c = let v = c .before .before .before .before .before .args .v in c .touching2 .ensures ∙ by-queue (v .waiting) (queue (v .proc .mutex)) ∙ at-line v 9 (c .before .match .keys9)
 
 returns-10 : tie.Need-returns-10
 unfolding line-of line-touch
@@ -58,7 +58,7 @@ returns-10 c = c .nothing3 .ensures ∙ at-line _ 10 (c .before .match .keys10)
 
 returns-11 : tie.Need-returns-11
 unfolding line-of line-touch
-returns-11 c = let v = c .before .before .before .before .before .before .args .v in c .touching .ensures ∙ by-zero (v .mutex .count) (count (v .proc .mutex)) ∙ at-line v 11 (c .before .before .match .keys11)
+returns-11 c = let v = c .before .before .before .before .before .before .args .v in c .touching3 .ensures ∙ by-zero (v .mutex .count) (count (v .proc .mutex)) ∙ at-line v 11 (c .before .before .match .keys11)
 
 returns-12 : tie.Need-returns-12
 unfolding line-of line-touch
@@ -78,7 +78,7 @@ returns-15 c = c .changes4 .ensures ∙ at-line _ 15 (c .before .match .keys15)
 
 returns-16 : tie.Need-returns-16
 unfolding line-of line-touch
-returns-16 c = let v = c .before .before .before .before .before .args .v in c .takes3 .ensures ∙ by-queue (v .queue) (queue (v .proc .mutex)) ∙ at-line v 16 (c .before .match .keys16)
+returns-16 c = let v = c .before .before .before .before .before .args .v in c .touching4 .ensures ∙ by-queue (v .waiting) (queue (v .proc .mutex)) ∙ at-line v 16 (c .before .match .keys16)
 
 returns-17 : tie.Need-returns-17
 unfolding line-of line-touch
