@@ -18,8 +18,8 @@ use Rattle.claim.specs.Implementation.{Implementation, Outcome, Refused}
 -- ---- a session on an implementation
 
 -- what happens: a move, turn, class or step back, lent the session's journal or another; a picture of any state written into the session's journal, lent as the
--- buffer; any other call (an opening, the journal's front or test, reading, turns ahead, writing elsewhere). These last are lent neither the session's record nor
--- its journal to change: the journal's front is lent a byte for its number besides, and the journal itself for reading.
+-- buffer; any other call (an opening, the journal's front or test, the last move's words, reading, turns ahead, writing elsewhere). These last are lent neither the
+-- session's record nor its journal to change: the journal's front is lent a byte for its number besides, and the journal itself for reading.
 pub data Event : Type 0 where
   asks : Call → Event
   writes : State → Event

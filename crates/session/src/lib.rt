@@ -23,7 +23,7 @@ use state::range::in_range;
 use state::refusal::Refusal;
 use touch::Touch;
 
-// What a start or a step back answers: the number that refuses it, or 0, and the session's record.
+// What a start, a step back or a class answers: the number that refuses it, or 0, and the session's record.
 pub struct Answer {
     pub refusal: u8,
     pub session: Session,
