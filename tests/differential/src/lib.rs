@@ -128,13 +128,22 @@ pub fn replay(table: Table, moves: &[u8], picture: &mut [u8]) -> Replayed {
     Replayed { number, place }
 }
 
-/// The same of a table with a fifth number.
-pub fn replay_with(table: Table, stealing: u8, moves: &[u8], picture: &mut [u8]) -> Replayed {
+/// A function that makes moves from a start table with a fifth number and writes into a buffer.
+type Replaying =
+    unsafe extern "C" fn(u8, u8, u8, u8, u8, *const u8, usize, *mut u8, usize, *mut u32) -> u8;
+
+fn replaying(
+    call: Replaying,
+    table: Table,
+    stealing: u8,
+    moves: &[u8],
+    out: &mut [u8],
+) -> Replayed {
     let [p, t, m, b] = table;
     let mut place = u32::MAX;
     // As above.
     let number = unsafe {
-        c::humdayeg_replay_with(
+        call(
             p,
             t,
             m,
@@ -142,35 +151,23 @@ pub fn replay_with(table: Table, stealing: u8, moves: &[u8], picture: &mut [u8])
             stealing,
             moves.as_ptr(),
             moves.len(),
-            picture.as_mut_ptr(),
-            picture.len(),
+            out.as_mut_ptr(),
+            out.len(),
             &mut place,
         )
     };
     Replayed { number, place }
 }
 
+/// The same of a table with a fifth number.
+pub fn replay_with(table: Table, stealing: u8, moves: &[u8], picture: &mut [u8]) -> Replayed {
+    replaying(c::humdayeg_replay_with, table, stealing, moves, picture)
+}
+
 /// Writes the words that each move of a list reads and writes, four bytes a move; refused, it writes
 /// nothing.
 pub fn words(table: Table, stealing: u8, moves: &[u8], words: &mut [u8]) -> Replayed {
-    let [p, t, m, b] = table;
-    let mut place = u32::MAX;
-    // As above.
-    let number = unsafe {
-        c::humdayeg_words(
-            p,
-            t,
-            m,
-            b,
-            stealing,
-            moves.as_ptr(),
-            moves.len(),
-            words.as_mut_ptr(),
-            words.len(),
-            &mut place,
-        )
-    };
-    Replayed { number, place }
+    replaying(c::humdayeg_words, table, stealing, moves, words)
 }
 
 /// Takes the turns of a class under scripts from a start table, with the number of each turn in
