@@ -108,18 +108,8 @@ fn start_tables() {
 /// Worked sessions, both choices.
 #[test]
 fn worked_sessions() {
-    for worked in [
-        worked::k4(),
-        worked::k5(),
-        worked::k6(),
-        worked::k7(),
-        worked::k8(),
-        worked::k8_with_trylocks(),
-        worked::steals(1),
-        worked::steals(2),
-        worked::steals(3),
-        worked::own_queues(),
-    ] {
+    let stolen = [1, 2, 3].map(worked::steals);
+    for worked in worked::hand_offs().into_iter().chain(stolen).chain([worked::own_queues()]) {
         let table = expected::table(worked.config);
         for stealing in [0, 1] {
             let length = TOUCH * worked.moves.len();

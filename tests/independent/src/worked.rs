@@ -148,6 +148,25 @@ pub fn k8_with_trylocks() -> Worked {
         .go(2, 1)
 }
 
+/// K4 to K8.
+pub fn hand_offs() -> [Worked; 6] {
+    [k4(), k5(), k6(), k7(), k8(), k8_with_trylocks()]
+}
+
+/// Three processors at App go on with what the sessions above leave out: a trylock at once, one
+/// without a token, one that is late, an unlock with nobody waiting, L7 with an empty queue.
+pub fn other_outcomes(before: Worked) -> Worked {
+    let mut first = before
+        .call(1, TRYLOCK, 1)
+        .go(1, 1)
+        .call(2, TRYLOCK, 1)
+        .go(2, 2)
+        .call(1, UNLOCK, 1)
+        .go(1, 1);
+    first.moves.extend(session_s(3).moves);
+    first.go(2, 3).call(3, TRYLOCK, 1).go(3, 2).go(1, 4).go(2, 1).go(3, 1)
+}
+
 /// The only thread exits, and its processor goes on: so many moves.
 pub fn k10(count: usize) -> Worked {
     Worked::new(Config::new(1, 1, 1, 1)).call(1, EXIT, 0).go(1, count - 1)

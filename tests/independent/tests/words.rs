@@ -90,24 +90,10 @@ fn on_mutex(m: u8, worked: &Worked) -> Worked {
     Worked { config, moves: worked.moves.iter().map(with).collect() }
 }
 
-/// What the worked sessions leave out: a trylock at once, one without a token, one that is late, an
-/// unlock with nobody waiting, L7 with an empty queue, a yield in vain, a create.
+/// What the worked sessions leave out: a yield in vain, a create, and other outcomes of their lines.
 fn other_outcomes() -> Worked {
-    let mut first = Worked::new(Config::new(3, 4, 1, 3))
-        .call(2, YIELD, 0)
-        .go(2, 1)
-        .call(3, CREATE, 4)
-        .go(3, 1)
-        .call(3, YIELD, 0)
-        .go(3, 5)
-        .call(1, TRYLOCK, 1)
-        .go(1, 1)
-        .call(2, TRYLOCK, 1)
-        .go(2, 2)
-        .call(1, UNLOCK, 1)
-        .go(1, 1);
-    first.moves.extend(worked::session_s(3).moves);
-    first.go(2, 3).call(3, TRYLOCK, 1).go(3, 2).go(1, 4).go(2, 1).go(3, 1)
+    let first = Worked::new(Config::new(3, 4, 1, 3)).call(2, YIELD, 0).go(2, 1);
+    worked::other_outcomes(first.call(3, CREATE, 4).go(3, 1).call(3, YIELD, 0).go(3, 5))
 }
 
 #[test]
@@ -115,16 +101,7 @@ fn each_line_and_call() {
     for stealing in [0, 1] {
         let mut met = Met::new();
         let exit = Worked::new(Config::new(3, 3, 1, 2)).go(3, 3).call(2, EXIT, 0).go(2, 4);
-        for worked in [
-            worked::k4(),
-            worked::k5(),
-            worked::k6(),
-            worked::k7(),
-            worked::k8(),
-            worked::k8_with_trylocks(),
-            other_outcomes(),
-            exit,
-        ] {
+        for worked in worked::hand_offs().into_iter().chain([other_outcomes(), exit]) {
             for m in 1..=8 {
                 let session = on_mutex(m, &worked).with_stealing(stealing);
                 let mut state = State::start(session.config);

@@ -191,20 +191,6 @@ fn creates_yields_exits() -> Worked {
         .go(1, 2)
 }
 
-/// What the sessions above leave out: a trylock that succeeds at once, one that finds no token,
-/// an unlock with nobody waiting, L7 with an empty queue, GT3 with another token.
-fn other_outcomes() -> Worked {
-    let mut first = Worked::new(Config::new(3, 3, 1, 3))
-        .call(1, TRYLOCK, 1)
-        .go(1, 1)
-        .call(2, TRYLOCK, 1)
-        .go(2, 2)
-        .call(1, UNLOCK, 1)
-        .go(1, 1);
-    first.moves.extend(worked::session_s(3).moves);
-    first.go(2, 3).call(3, TRYLOCK, 1).go(3, 2).go(1, 4).go(2, 1).go(3, 1)
-}
-
 fn worked_sessions(s: &mut Script) {
     s.say("noise 1");
     there_and_back(s, "K4", &worked::k4());
@@ -215,7 +201,11 @@ fn worked_sessions(s: &mut Script) {
     there_and_back(s, "K8", &worked::k8());
     there_and_back(s, "K8 with trylocks", &worked::k8_with_trylocks());
     there_and_back(s, "creates, yields, exits", &creates_yields_exits());
-    there_and_back(s, "other outcomes", &other_outcomes());
+    there_and_back(
+        s,
+        "other outcomes",
+        &worked::other_outcomes(Worked::new(Config::new(3, 3, 1, 3))),
+    );
     for p in 1..=3 {
         there_and_back(s, &format!("processor {p} takes from all queues"), &worked::steals(p));
     }
