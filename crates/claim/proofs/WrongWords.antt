@@ -6,10 +6,9 @@ use mathlib.Core.Path.{_≡_, refl, ap}
 use native.Mathlib.Omega.{arith}
 use lib.Dec.{eqb}
 use lib.ListN.{replicate}
-use Rattle.touch.specs.Association.{kind}
 use Rattle.reference.specs.Lists.{choose}
 use Rattle.reference.specs.Step.{Move, move-of, next}
-use Rattle.reference.specs.Touch.{Touch, nothing, touch}
+use Rattle.reference.specs.Touch.{Touch, nothing, touch, kind}
 use Rattle.reference.specs.Session.{move, turn, Reply}
 use Rattle.session.specs.Contract.{shown}
 use Rattle.claim.specs.Implementation.{Outcome, Implementation, calls}

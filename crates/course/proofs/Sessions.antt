@@ -1,9 +1,8 @@
 -- Whatever lines `course` reads, the session that it holds is one of demand 3.
 -- Assumes nothing.
 use Prim.Native.Nat.{ℕ, zero, suc, _*_, _≤_}
-use mathlib.Core.Bool.{Bool, true, false, cond, not, _&&_}
+use mathlib.Core.Bool.{Bool, true, false, cond}
 use mathlib.Core.List.{List, [], _∷_, _++_}
-use mathlib.Core.Logic.{_⊎_, inl, inr}
 use mathlib.Core.Path.{_≡_, refl, sym, ap, ap₂, _∙_, subst}
 use lib.Dec.{eqb}
 use native.Mathlib.Nat.{mul-le-mul}
@@ -20,12 +19,12 @@ use Rattle.command.proofs.Asks.{fields-wide}
 use Rattle.command.proofs.Grammar.{course-grammar-holds}
 use Rattle.state.specs.declared.Session.{Session}
 use Rattle.state.specs.Association.{encode, decode}
-use Rattle.reference.specs.Refusal.{bad-length, still-owner, refuse}
+use Rattle.reference.specs.Refusal.{bad-length}
 use Rattle.reference.specs.Lists.{choose, if-zero}
 use Rattle.reference.specs.State.{State}
 use Rattle.reference.specs.Start.{Config, config-cause, start}
 use Rattle.reference.specs.Step as step-of
-use Rattle.reference.specs.Cause.{Facts, first-cause, facts, cause}
+use Rattle.reference.proofs.Legal.{cause-number}
 use Rattle.reference.specs.Touch.{nothing, last-touch}
 use Rattle.reference.specs.Picture.{picture}
 use Rattle.reference.specs.Script.{scripts-ok}
@@ -361,41 +360,12 @@ module _ (n m : ℕ) (k : Context) (g : Kept n m k) (b : k .base .begun ≡ true
         answers = answers;
       }
 
--- ---- the numbers of causes
-
-abbrev OfCause : ℕ → Type 0
-OfCause n = (n ≤ 8) ⊎ (n ≡ still-owner)
-
-first : (b : Bool) (n later : ℕ) → OfCause n → OfCause later → OfCause (refuse b n later)
-first true n later h k = h
-first false n later h k = k
-
-first-of-cause : (f : Facts) → OfCause (first-cause f)
-first-of-cause f =
-    first (not (f .there)) 2 _
-    (inl (omega arith))
-    (first (not (f .fits)) 3 _
-    (inl (omega arith))
-    (first (f .full) 8 _
-    (inl (omega arith))
-    (first (not (f .goes) && not (f .at-app)) 4 _
-    (inl (omega arith))
-    (first (f .goes && f .at-app) 5 _
-    (inl (omega arith))
-    (first (f .unlocks && not (f .owner)) 6 _
-    (inl (omega arith))
-    (first (f .creates && not (f .is-new)) 7 _ (inl (omega arith)) (first (f .exits && f .owning) still-owner 0 (inr refl) (inl (omega arith)))))))))
-
-causes : (s : State) (a : step-of.Move) → OfCause (cause s a)
-unfolding cause
-causes s a = first-of-cause (facts s a)
-
 pub sessions : Sessions
 sessions =
     record {
       held = λ j x ls b. lines j x ls .held b;
       lawful = λ j x ls b. lawful (length j) (length x) (after-lines (started-with j x) ls) (lines j x ls) b;
-      causes = causes;
+      causes = cause-number;
       runs = λ j x u b. (run j x u .held b, lawful (length j) (length x) (u .context) (run j x u) b);
     }
   where

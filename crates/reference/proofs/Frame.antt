@@ -197,7 +197,7 @@ module _ (s : State) (g : Good s) (p : ℕ) (rp : In (s .P) p) where
             (sym (ap is-new (h .unborn refl)) ∙ sym e ∙ ap is-new (at-put-same (s .lives) o live live (omega (arith, g .lives, range-true 1 (s .T) o f))));
       }
 
-framed : (s : State) (a : Move) → Good s → cause s a ≡ 0 → Framed s a
+pub framed : (s : State) (a : Move) → Good s → cause s a ≡ 0 → Framed s a
 unfolding next
 framed s a g e =
     let h = legal s a e in

@@ -3,14 +3,17 @@
 use Prim.Native.Nat.{ℕ, _≤_, _<_}
 use mathlib.Core.Bool.{Bool, true, false, _&&_, not, true≢false}
 use mathlib.Core.List.{List, _∷_}
-use mathlib.Core.Path.{_≡_, ap, sym}
+use mathlib.Core.Logic.{_⊎_, inl, inr}
+use mathlib.Core.Path.{_≡_, refl, ap, sym}
+use native.Mathlib.Omega.{arith}
 use lib.Dec.{leb}
-use borrow.Author.Tests.{leb-true, leb-false, eqb-true, not-false}
-use Rattle.reference.specs.State.{State, App, new, processor-at, mutex-at, life-at}
+use borrow.Author.Tests.{leb-true, leb-false, le-leb, lt-leb, eqb-true, eq-eqb, not-true, not-false}
+use Rattle.reference.specs.Refusal.{still-owner, refuse}
+use Rattle.reference.specs.State.{State, Line, Life, App, new, same-line, same-life, processor-at, mutex-at, life-at}
 use Rattle.reference.specs.Step.{Action, Move, action-of, next}
-use Rattle.reference.specs.Cause.{operand-fits, is-go, is-unlock, is-create, is-exit, at-app, owns-none, Facts, facts, cause, accepted}
+use Rattle.reference.specs.Cause.{operand-fits, is-go, is-unlock, is-create, is-exit, at-app, owns-none, Facts, first-cause, facts, cause, accepted}
 use Rattle.reference.specs.Safe.{In}
-use Rattle.reference.proofs.Tests.{both-left, both-right, _and_, range-true, passed}
+use Rattle.reference.proofs.Tests.{both, both-left, both-right, _and_, range-true, true-range, passed}
 use Rattle.reference.proofs.Same.{same-line-exact, same-life-exact}
 
 -- where the processor, the action and its operand are in order and there is room
@@ -59,6 +62,59 @@ legal s a e =
         owns-none = λ x. not-false _ (other (f .exits) _ (q .0) x);
       };
     }
+
+-- ---- and back: where all of that holds there is no cause
+
+pass : (b : Bool) (n x : ℕ) → b ≡ false → x ≡ 0 → refuse b n x ≡ 0
+pass true n x e h = absurd (true≢false e)
+pass false n x e h = h
+
+not-both : (a b : Bool) → (a ≡ true → b ≡ false) → a && b ≡ false
+not-both true b h = h refl
+not-both false b h = refl
+
+pub no-cause : (s : State) (a : Move) → Legal s a → cause s a ≡ 0
+unfolding cause
+no-cause s a h =
+    let f : Facts = facts s a in
+    let x = h .here in
+    pass _ _ _ (ap not (true-range 1 (s .P) (a .processor) (h .processor .0) (h .processor .1)))
+    (pass _ _ _ (ap not (both (le-leb (a .action) 6 (h .action)) (h .operand)))
+    (pass _ _ _ (lt-leb 4000 (s .applied) (h .room))
+    (pass _ _ _ (not-both (not (f .goes)) _ (λ e. ap (λ (l : Line). not (same-line l App)) (x .call (not-true _ e))))
+    (pass _ _ _ (not-both (f .goes) _ (x .away))
+    (pass _ _ _ (not-both (f .unlocks) _ (λ e. ap not (eq-eqb _ _ (x .owner e))))
+    (pass _ _ _ (not-both (f .creates) _ (λ e. ap (λ (l : Life). not (same-life l new)) (x .unborn e)))
+    (pass _ _ _ (not-both (f .exits) _ (λ e. ap not (x .owns-none e))) refl)))))))
+
+-- ---- the numbers of causes
+
+abbrev OfCause : ℕ → Type 0
+OfCause n = (n ≤ 8) ⊎ (n ≡ still-owner)
+
+first : (b : Bool) (n later : ℕ) → OfCause n → OfCause later → OfCause (refuse b n later)
+first true n later h k = h
+first false n later h k = k
+
+first-of-cause : (f : Facts) → OfCause (first-cause f)
+first-of-cause f =
+    first (not (f .there)) 2 _
+    (inl (omega arith))
+    (first (not (f .fits)) 3 _
+    (inl (omega arith))
+    (first (f .full) 8 _
+    (inl (omega arith))
+    (first (not (f .goes) && not (f .at-app)) 4 _
+    (inl (omega arith))
+    (first (f .goes && f .at-app) 5 _
+    (inl (omega arith))
+    (first (f .unlocks && not (f .owner)) 6 _
+    (inl (omega arith))
+    (first (f .creates && not (f .is-new)) 7 _ (inl (omega arith)) (first (f .exits && f .owning) still-owner 0 (inr refl) (inl (omega arith)))))))))
+
+pub cause-number : (s : State) (a : Move) → OfCause (cause s a)
+unfolding cause
+cause-number s a = first-of-cause (facts s a)
 
 pub accepted-cons : (s : State) (a : Move) (rest : List Move) → accepted s (a ∷ rest) ≡ true → (cause s a ≡ 0) × (accepted (next s a) rest ≡ true)
 unfolding accepted

@@ -28,7 +28,7 @@ abbrev pub Living : State → Type 0
 Living s = (m : ℕ) → In (s .M) m → life-at s (mutex-at s m .owner) ≡ live
 
 -- a thread becomes an owner while it is current or the first of the queue
-gains-by : (Q : ℕ → Type 0) (l : Line) (v : View) → Q 0 → Q (v .proc .current) → ((x : ℕ) (xs : List ℕ) → v .mutex .queue ≡ x ∷ xs → Q x) → Q (gains l v)
+pub gains-by : (Q : ℕ → Type 0) (l : Line) (v : View) → Q 0 → Q (v .proc .current) → ((x : ℕ) (xs : List ℕ) → v .mutex .queue ≡ x ∷ xs → Q x) → Q (gains l v)
 unfolding gains
 gains-by Q l v none current first =
     choose-by Q (same-line l L1) (λ e. if-free)

@@ -1,4 +1,4 @@
--- A list of moves, one more and one less.
+-- Lists of moves: one after another, one more and one less.
 -- Assumes nothing.
 use Prim.Native.Nat.{_+_, _-_, _≤_}
 use mathlib.Core.Bool.{true}
@@ -15,10 +15,35 @@ use Rattle.reference.specs.Session.{all-but-last}
 use Rattle.reference.proofs.Tests.{both}
 use Rattle.reference.proofs.Legal.{legal, accepted-cons}
 
+-- ---- two lists, one after the other
+
+pub run-append : (ms ns : List Move) (s : State) → run s (ms ++ ns) ≡ run (run s ms) ns
+unfolding run
+run-append [] ns s = refl
+run-append (a ∷ ms) ns s = run-append ms ns (next s a)
+
+pub accepted-more : (s : State) (a : Move) (rest : List Move) → cause s a ≡ 0 → accepted (next s a) rest ≡ true → accepted s (a ∷ rest) ≡ true
+unfolding accepted
+accepted-more s a rest e h = both (eq-eqb (cause s a) 0 e) h
+
+pub accepted-append : (ms ns : List Move) (s : State) → accepted s ms ≡ true → accepted (run s ms) ns ≡ true → accepted s (ms ++ ns) ≡ true
+unfolding run accepted
+accepted-append [] ns s h k = k
+accepted-append (a ∷ ms) ns s h k = let e = accepted-cons s a ms h in accepted-more s a (ms ++ ns) (e .0) (accepted-append ms ns (next s a) (e .1) k)
+
+pub accepted-split : (ms ns : List Move) (s : State) → accepted s (ms ++ ns) ≡ true → (accepted s ms ≡ true) × (accepted (run s ms) ns ≡ true)
+unfolding run accepted
+accepted-split [] ns s h = (refl, h)
+accepted-split (a ∷ ms) ns s h =
+    let e = accepted-cons s a (ms ++ ns) h in
+    let r = accepted-split ms ns (next s a) (e .1) in
+    (accepted-more s a ms (e .0) (r .0), r .1)
+
+-- ---- a list and its last
+
 pub run-snoc : (ms : List Move) (s : State) (a : Move) → run s (ms ++ a ∷ []) ≡ next (run s ms) a
 unfolding run
-run-snoc [] s a = refl
-run-snoc (b ∷ rest) s a = run-snoc rest (next s b) a
+run-snoc ms s a = run-append ms (a ∷ []) s
 
 -- what the last one touches
 pub last-snoc : (ms : List Move) (s : State) (a : Move) → last-touch s (ms ++ a ∷ []) ≡ touch (run s ms) a
@@ -27,22 +52,12 @@ last-snoc [] s a = refl
 last-snoc (b ∷ []) s a = refl
 last-snoc (b ∷ d ∷ rest) s a = last-snoc (d ∷ rest) (next s b) a
 
-accepted-more : (s : State) (a : Move) (rest : List Move) → cause s a ≡ 0 → accepted (next s a) rest ≡ true → accepted s (a ∷ rest) ≡ true
-unfolding accepted
-accepted-more s a rest e h = both (eq-eqb (cause s a) 0 e) h
-
 pub accepted-snoc : (ms : List Move) (s : State) (a : Move) → accepted s ms ≡ true → cause (run s ms) a ≡ 0 → accepted s (ms ++ a ∷ []) ≡ true
-unfolding run accepted
-accepted-snoc [] s a h k = accepted-more s a [] k refl
-accepted-snoc (b ∷ rest) s a h k = let e = accepted-cons s b rest h in accepted-more s b (rest ++ a ∷ []) (e .0) (accepted-snoc rest (next s b) a (e .1) k)
+unfolding accepted
+accepted-snoc ms s a h k = accepted-append ms (a ∷ []) s h (accepted-more (run s ms) a [] k refl)
 
 pub accepted-last : (ms : List Move) (s : State) (a : Move) → accepted s (ms ++ a ∷ []) ≡ true → (accepted s ms ≡ true) × (cause (run s ms) a ≡ 0)
-unfolding run accepted
-accepted-last [] s a h = (refl, accepted-cons s a [] h .0)
-accepted-last (b ∷ rest) s a h =
-    let e = accepted-cons s b (rest ++ a ∷ []) h in
-    let r = accepted-last rest (next s b) a (e .1) in
-    (accepted-more s b rest (e .0) (r .0), r .1)
+accepted-last ms s a h = let r = accepted-split ms (a ∷ []) s h in (r .0, accepted-cons (run s ms) a [] (r .1) .0)
 
 pub accepted-all-but-last : (ms : List Move) (s : State) → accepted s ms ≡ true → accepted s (all-but-last ms) ≡ true
 unfolding accepted all-but-last

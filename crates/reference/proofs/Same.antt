@@ -3,11 +3,13 @@
 use Prim.Native.Nat.{ℕ}
 use mathlib.Core.Bool.{Bool, true, true≢false}
 use mathlib.Core.List.{List, [], _∷_}
-use mathlib.Core.Path.{_≡_, refl, ap, sym, _∙_}
+use mathlib.Core.Path.{_≡_, refl, ap, ap₂, sym, _∙_}
 use lib.Dec.{eqb}
+use lib.ListN.{getD}
 use borrow.Author.Tests.{eqb-true, eq-eqb}
 use Rattle.reference.specs.Lists.{same-list}
 use Rattle.reference.specs.State.{Life, new, live, terminated, Line, App, CI2, CI3, L1, L3, L4, L6, L7, L8, L9, L10, TL1, GT1, GT3, TL3, U1, H2, H3, H5, H6, H8, Y1, Y2, Y3, C2, row, line-of, same-line, same-token, same-processor, same-mutex, same-life, same-state}
+use Rattle.reference.specs.Touch.{Word, none, count, token, queue, ready, birth, kind, number, same-word}
 use Rattle.reference.proofs.Tests.{both, _and_}
 
 -- the line of a line's number
@@ -144,4 +146,23 @@ same-state-exact =
           eqb-true (s .stealing) (e .stealing)
           ) y in
           (λ i. record { P = h .0 .0 .0 .0 .0 .0 .0 .0 i; T = h .0 .0 .0 .0 .0 .0 .0 .1 i; M = h .0 .0 .0 .0 .0 .0 .1 i; ready = h .0 .0 .0 .0 .0 .1 i; processors = h .0 .0 .0 .0 .1 i; mutexes = h .0 .0 .0 .1 i; lives = h .0 .0 .1 i; applied = h .0 .1 i; stealing = h .1 i });
+    }
+
+-- the word of a kind and a number
+abbrev word-of : ℕ → ℕ → Word
+word-of k n = getD (none ∷ count n ∷ token n ∷ queue n ∷ ready n ∷ birth n ∷ []) k none
+
+word-number : (w : Word) → word-of (kind w) (number w) ≡ w
+word-number none = refl
+word-number (count m) = refl
+word-number (token m) = refl
+word-number (queue m) = refl
+word-number (ready q) = refl
+word-number (birth k) = refl
+
+pub same-word-exact : Exact same-word
+same-word-exact =
+    record {
+      itself = λ w. both (eqb-self (kind w)) (eqb-self (number w));
+      only = λ w x e. let h = (eqb-true (kind w) (kind x) and eqb-true (number w) (number x)) e in sym (word-number w) ∙ ap₂ word-of (h .0) (h .1) ∙ word-number x;
     }

@@ -24,7 +24,7 @@ use Rattle.reference.proofs.Legal.{legal}
 use Rattle.reference.proofs.Invariant.{Good}
 use Rattle.reference.proofs.Moves.{run-snoc, accepted-snoc}
 use Rattle.reference.proofs.Script.{progress-snoc, accepted-turn}
-use Rattle.reference.proofs.Current.{owner-stays}
+use Rattle.reference.proofs.Current.{owner-alike}
 use Rattle.reference.proofs.Laws.{good, sized, applied-is, owner-is}
 
 -- an owner owns something
@@ -97,8 +97,9 @@ module _ (c : Config) (x : List ℕ) (right : config-cause c ≡ 0) (p m k : ℕ
       unfolding next
       owner-after =
           let l = legal (end c ms) a e in
-          owner-stays (end c ms) g p here (a .processor) (l .processor) n (l .room) (omega (arith, h .current, low)) m there (owner ∙ sym (h .current))
-          (action-of (a .action)) (a .operand) ∙
+          eqb-true _ _
+          (owner-alike (end c ms) g p here (omega (arith, h .current, low)) (a .processor) (l .processor) n (l .room) m (action-of (a .action)) (a .operand) ∙
+          eq-eqb _ _ (owner ∙ sym (h .current))) ∙
           h .current
 
       more : Spent c x p m k (ms ++ a ∷ [])

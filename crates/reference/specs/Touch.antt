@@ -1,6 +1,7 @@
 -- Document 02, No. 4: which shared word a move reads and which it writes. The owner is no word.
 -- Assumes nothing.
 use Prim.Native.Nat.{ℕ}
+use mathlib.Core.Bool.{Bool, _&&_, _||_, not}
 use mathlib.Core.List.{List, [], _∷_}
 use lib.Dec.{eqb}
 use Rattle.reference.specs.Lists.{choose, if-zero, if-empty}
@@ -85,3 +86,33 @@ unfoldable pub last-touch : State → List Move → Touch
 last-touch s [] = nothing
 last-touch s (a ∷ []) = touch s a
 last-touch s (a ∷ b ∷ rest) = last-touch (next s a) (b ∷ rest)
+
+-- ---- the words of two moves
+
+-- a word as two numbers: its kind, and which mutex, ready queue or thread it belongs to
+abbrev pub kind : Word → ℕ
+kind none = 0
+kind (count m) = 1
+kind (token m) = 2
+kind (queue m) = 3
+kind (ready q) = 4
+kind (birth k) = 5
+
+abbrev pub number : Word → ℕ
+number none = 0
+number (count m) = m
+number (token m) = m
+number (queue m) = m
+number (ready q) = q
+number (birth k) = k
+
+abbrev pub same-word : Word → Word → Bool
+same-word w x = eqb (kind w) (kind x) && eqb (number w) (number x)
+
+-- the word is read or written; none is no word
+abbrev pub touches-word : Touch → Word → Bool
+touches-word t w = not (same-word w none) && (same-word (t .reads) w || same-word (t .writes) w)
+
+-- neither writes a word that the other touches
+unfoldable pub apart : Touch → Touch → Bool
+apart t u = not (touches-word u (t .writes)) && not (touches-word t (u .writes))

@@ -5,7 +5,7 @@ use mathlib.Core.List.{List, [], _∷_}
 use Rattle.touch.specs.declared.Word as code
 use Rattle.touch.specs.declared.Word.the-variants as case
 use Rattle.touch.specs.declared.Touch as pair
-use Rattle.reference.specs.Touch.{Word, none, count, token, queue, ready, birth, Touch}
+use Rattle.reference.specs.Touch.{Word, none, count, token, queue, ready, birth, Touch, kind, number}
 
 -- the word that each case of the enum means
 abbrev pub word-shown : code.Word → Word
@@ -31,24 +31,6 @@ word-record (birth k) = case.Birth k
 abbrev pub touch-record : Touch → pair.Touch
 touch-record t = record { reads = word-record (t .reads); writes = word-record (t .writes) }
 
--- ---- a word as two bytes: its kind, and the number of its mutex, ready queue or thread
-
-abbrev pub kind : Word → ℕ
-kind none = 0
-kind (count m) = 1
-kind (token m) = 2
-kind (queue m) = 3
-kind (ready q) = 4
-kind (birth k) = 5
-
-abbrev pub number : Word → ℕ
-number none = 0
-number (count m) = m
-number (token m) = m
-number (queue m) = m
-number (ready q) = q
-number (birth k) = k
-
--- those of the word read, then those of the word written
+-- a word as two bytes, its kind and its number: those of the word read, then those of the word written
 abbrev pub touch-bytes : Touch → List ℕ
 touch-bytes t = kind (t .reads) ∷ number (t .reads) ∷ kind (t .writes) ∷ number (t .writes) ∷ []

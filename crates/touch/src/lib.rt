@@ -5,9 +5,9 @@ ghost use mathlib.Core.Path.{_≡_};
 ghost use lib.Dec.{eqb};
 ghost use Rattle.state.specs.Record.{processor-of};
 ghost use Rattle.step.specs.model.Moves.{view-of};
-ghost use Rattle.touch.specs.Association.{touch-record, word-shown, kind, number};
+ghost use Rattle.touch.specs.Association.{touch-record, touch-shown, word-shown};
 ghost use Rattle.reference.specs.Lists.{choose};
-ghost use Rattle.reference.specs.Touch.{nothing};
+ghost use Rattle.reference.specs.Touch.{nothing, kind, number, same-word, touches-word, apart};
 ghost use Rattle.touch.specs.model.Made.{sight-of, touch-of, made-of};
 use state::Mutex;
 use state::Processor;
@@ -79,6 +79,37 @@ impl Word {
             Word::Birth(k) => k,
         }
     }
+}
+
+pub fn same_word(v: Word, w: Word) -> bool
+    ensures { λ b. ⌜ b ≡ same-word (word-shown v) (word-shown w) ⌝ }
+{
+    let kind = v.kind();
+    let number = v.number();
+    (kind == w.kind()) & (number == w.number())
+}
+
+// The word is read or written; none is no word.
+fn touches_word(t: Touch, w: Word) -> bool
+    ensures { λ b. ⌜ b ≡ touches-word (touch-shown t) (word-shown w) ⌝ }
+{
+    let reads = t.reads;
+    let writes = t.writes;
+    let none = same_word(w, Word::None);
+    let read = same_word(reads, w);
+    let written = same_word(writes, w);
+    !none & (read | written)
+}
+
+// Neither writes a word that the other touches.
+pub fn apart(t: Touch, u: Touch) -> bool
+    ensures { λ b. ⌜ b ≡ apart (touch-shown t) (touch-shown u) ⌝ }
+{
+    let first = t.writes;
+    let second = u.writes;
+    let meets = touches_word(u, first);
+    let met = touches_word(t, second);
+    !meets & !met
 }
 
 // What a processor sees of the shared words: its number, its registers, its mutex, whether a thread is in that mutex's queue and in the ready queue that it works

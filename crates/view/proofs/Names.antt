@@ -15,9 +15,8 @@ use Rattle.reference.specs.Lists.{if-zero}
 use Rattle.command.specs.Command.{field}
 use Rattle.command.specs.Printing.{text, decimal, wide}
 use Rattle.state.specs.declared.Token.{Token}
-use Rattle.reference.specs.Touch.{Word, Touch}
-use Rattle.touch.specs.Association.{kind, number}
-use Rattle.view.specs.Words.{trimmed, word-at, kind-word, token-text, word-text, same-word, mark}
+use Rattle.reference.specs.Touch.{Word, Touch, kind, number, same-word}
+use Rattle.view.specs.Words.{trimmed, word-at, kind-word, token-text, word-text, mark}
 
 -- ---- the length of a word
 

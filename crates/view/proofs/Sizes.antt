@@ -14,7 +14,7 @@ use Rattle.command.specs.Printing.{text, decimal, wide, padded, line-feed}
 use Rattle.command.proofs.Lines.{decimal-length}
 use Rattle.command.proofs.Put.{spaces-length}
 use Rattle.reference.specs.Lists.{if-zero}
-use Rattle.reference.specs.Touch.{Word, count, token, queue, ready, birth, Touch}
+use Rattle.reference.specs.Touch.{Word, count, token, queue, ready, birth, Touch, same-word}
 use Rattle.reference.proofs.Tests.{both-left, _and_, range-true, passed}
 use Rattle.state.specs.declared.Thread.{Thread}
 use Rattle.state.specs.declared.Token.{Token}
@@ -25,7 +25,7 @@ use Rattle.state.specs.Record.{thread-of, processor-of, mutex-of, chain, first-
 use Rattle.state.specs.Association.{queue-shown}
 use Rattle.state.specs.Rules.{fields-ok, broken-rule, zero-past, state-ok}
 use Rattle.command.specs.Request.{fields}
-use Rattle.view.specs.Words.{trimmed, word-at, line-name, answer-word, status-word, or-dash, token-text, same-word, mark, or-none, listed, rows}
+use Rattle.view.specs.Words.{trimmed, word-at, line-name, answer-word, status-word, or-dash, token-text, mark, or-none, listed, rows}
 use Rattle.view.specs.Table.{processor-row, mutex-row, ready-row, ready-rows, having, status-row, table, view-text}
 
 -- ---- numbers and words

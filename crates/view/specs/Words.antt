@@ -1,7 +1,7 @@
 -- Names, numbers, tokens, shared words and lists of threads as a person reads them.
 -- Assumes nothing.
 use Prim.Native.Nat.{ℕ, zero, suc, _*_}
-use mathlib.Core.Bool.{Bool, cond, _&&_}
+use mathlib.Core.Bool.{cond}
 use mathlib.Core.List.{List, [], _∷_, _++_}
 use lib.Dec.{eqb}
 use lib.ListN.{take, drop}
@@ -10,8 +10,7 @@ use Rattle.command.specs.Request.{fields}
 use Rattle.command.specs.Printing.{text, decimal, wide}
 use Rattle.state.specs.declared.Token.{Token}
 use Rattle.reference.specs.Lists.{if-zero}
-use Rattle.reference.specs.Touch.{Word, Touch}
-use Rattle.touch.specs.Association.{kind, number}
+use Rattle.reference.specs.Touch.{Word, Touch, kind, number, same-word}
 
 -- ---- words out of a table in which each has the same width, shorter ones with spaces behind them
 
@@ -63,10 +62,6 @@ word-text w = kind-word (kind w) ++ if-zero (kind w) [] (field (number w))
 -- the word that a move read and the one that it wrote
 unfoldable pub touch-text : Touch → List ℕ
 touch-text t = text " reads " ++ word-text (t .reads) ++ text " writes " ++ word-text (t .writes)
-
--- two words are the same where kind and number are
-abbrev pub same-word : Word → Word → Bool
-same-word v w = eqb (kind v) (kind w) && eqb (number v) (number w)
 
 -- behind a word that was touched: read, written, or both
 unfoldable pub mark : Touch → Word → List ℕ

@@ -5,13 +5,14 @@ ghost use lib.ListN.{length};
 ghost use Rattle.command.specs.Command.{field};
 ghost use Rattle.command.specs.Printing.{buffer-of, add};
 ghost use Rattle.touch.specs.Association.{word-shown, touch-shown};
-ghost use Rattle.view.specs.Words.{trimmed, word-at, line-name, answer-word, status-word, action-word, or-dash, token-text, word-text, touch-text, same-word, mark};
+ghost use Rattle.view.specs.Words.{trimmed, word-at, line-name, answer-word, status-word, action-word, or-dash, token-text, word-text, touch-text, mark};
 use command::printing::put;
 use command::printing::put_number;
 use command::printing::put_wide;
 use state::Token;
 use touch::Touch;
 use touch::Word;
+use touch::same_word;
 
 fn least(n: usize, m: usize) -> usize
     ensures { λ r. ⌜ r ≡ min n m ⌝ }
@@ -141,14 +142,6 @@ pub fn put_touch(out: &mut [u8], at: usize, t: Touch) -> usize
     let end = put_shared(out, end, reads);
     let end = put(out, end, b" writes ");
     put_shared(out, end, writes)
-}
-
-fn same_word(v: Word, w: Word) -> bool
-    ensures { λ b. ⌜ b ≡ same-word (word-shown v) (word-shown w) ⌝ }
-{
-    let kind = v.kind();
-    let number = v.number();
-    (kind == w.kind()) & (number == w.number())
 }
 
 // Behind a word that was touched: read, written, or both.

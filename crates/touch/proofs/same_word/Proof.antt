@@ -1,7 +1,8 @@
--- `view::words::same_word` meets its contract.
+-- `touch::same_word` meets its contract.
+-- Assumes nothing.
 use borrow.Author.Needs.{needs}
-use Rattle.view.proofs.words.same_word.Statement.{statement}
-use Rattle.view.proofs.words.same_word.Tie as tie
+use Rattle.touch.proofs.same_word.Statement.{statement}
+use Rattle.touch.proofs.same_word.Tie as tie
 
 returns : tie.Need-returns
 returns c = rw (c .before .before .before .kind .ensures, c .before .before .number .ensures, c .before .kind2 .ensures, c .number2 .ensures)
