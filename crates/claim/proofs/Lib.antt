@@ -6,6 +6,7 @@ pub mod Refusals
 pub mod Demand2
 pub mod Demand3
 pub mod Class
+pub mod Exchange
 pub mod Fits
 pub mod Sample
 pub mod Altered

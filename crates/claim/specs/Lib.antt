@@ -5,4 +5,5 @@ pub mod Demand2
 pub mod Demand3
 pub mod Sound
 pub mod Class
+pub mod Exchange
 pub mod Worked
