@@ -8,12 +8,12 @@ use native.Mathlib.Omega.{arith}
 use lib.ListN.{length, getD, set, take, drop}
 use lib.Seq.{sets-eq}
 use borrow.Author.Tests.{eq-eqb, lt-ltb, le-ltb}
-use Rattle.exports.specs.declared.replay.Replayed.{Replayed}
+use Rattle.exports.specs.declared.replay.Tried.{Tried}
 use Rattle.exports.specs.Replay.{Replay, found, replay, whole, replay-place}
 use Rattle.exports.specs.Words.{moves-in, words-of, words-number, words-written}
-use Rattle.exports.specs.model.Replayed.{Replays}
+use Rattle.exports.specs.model.Replayed.{tried-of}
 use Rattle.exports.specs.model.Made.{made-by, made-after, made-words}
-use Rattle.exports.proofs.Answers.{table-refused, place-is}
+use Rattle.exports.proofs.Tried.{later-first, none-first}
 use Rattle.state.specs.declared.State.{State as Record}
 use Rattle.state.specs.Association.{encode}
 use Rattle.state.specs.model.Access.{start-record}
@@ -25,7 +25,7 @@ use Rattle.touch.proofs.Agrees.{touch-back}
 use Rattle.reference.specs.Lists.{if-zero, with-front}
 use Rattle.reference.specs.State.{State}
 use Rattle.reference.specs.Start.{Config, config-cause, start}
-use Rattle.reference.specs.Step.{Move, next, run}
+use Rattle.reference.specs.Step.{Move, move-of, next, run}
 use Rattle.reference.specs.Cause.{cause, accepted}
 use Rattle.reference.specs.Touch.{touch, touched}
 use Rattle.reference.specs.Session.{moves}
@@ -99,6 +99,17 @@ touched-is : (s : State) (a : Move) → cause s a ≡ 0 → touched s a ≡ touc
 unfolding touched
 touched-is s a z = rw (eq-eqb (cause s a) 0 z)
 
+-- a move that is accepted, as the code makes it, has the words of the reference machine's and leaves its state
+pub made-one : (c : Config) → config-cause c ≡ 0 → (ms : List Move) → accepted (start c) ms ≡ true → (a : Move) → cause (run (start c) ms) a ≡ 0 →
+    (touch-shown (made-by (encode (run (start c) ms)) a .touch) ≡ touch (run (start c) ms) a) ×
+    (made-by (encode (run (start c) ms)) a .state ≡ encode (next (run (start c) ms) a))
+made-one c right ms ok a z =
+    let s : State = run (start c) ms in
+    let made : made-by (encode s) a ≡ made-in s a = touched-reached c ms right ok a in (
+      ap (λ (m : Made). touch-shown (m .touch)) made ∙ touch-back (touched s a) ∙ touched-is s a z,
+      ap (λ (m : Made). m .state) made ∙ rw (eq-eqb (cause s a) 0 z),
+    )
+
 -- moves that are accepted one after the other touch what those of the reference machine do
 words-made : (c : Config) → config-cause c ≡ 0 → (ms done : List Move) → accepted (start c) done ≡ true → accepted (run (start c) done) ms ≡ true →
     made-words (encode (run (start c) done)) ms ≡ words-of (run (start c) done) ms
@@ -108,30 +119,33 @@ words-made c right (a ∷ ms) done ok all =
     let s : State = run (start c) done in
     let t = accepted-cons s a ms all in
     let on : run (start c) (done ++ a ∷ []) ≡ next s a = run-snoc done (start c) a in
-    let made : made-by (encode s) a ≡ made-in s a = touched-reached c done right ok a in
-    let after : made-by (encode s) a .state ≡ encode (next s a) = ap (λ (m : Made). m .state) made ∙ rw (eq-eqb (cause s a) 0 (t .0)) in
-    let words : touch-shown (made-by (encode s) a .touch) ≡ touch s a =
-    ap (λ (m : Made). touch-shown (m .touch)) made ∙ touch-back (touched s a) ∙ touched-is s a (t .0) in
+    let one = made-one c right done ok a (t .0) in
     let rest : made-words (encode (next s a)) ms ≡ words-of (next s a) ms =
     subst (λ (e : State). made-words (encode e) ms ≡ words-of e ms) on
     (words-made c right ms (done ++ a ∷ []) (accepted-snoc done (start c) a ok (t .0)) (ap (λ (e : State). accepted e ms) on ∙ t .1)) in
-    (λ i. touch-bytes (words i) ++ made-words (after i) ms) ∙ ap (λ (l : List ℕ). touch-bytes (touch s a) ++ l) rest
+    (λ i. touch-bytes (one .0 i) ++ made-words (one .1 i) ms) ∙ ap (λ (l : List ℕ). touch-bytes (touch s a) ++ l) rest
 
--- where a replay refuses no move, all are accepted
-replay-accepted : (s : State) (i : ℕ) (j : List ℕ) → replay s i j .refusal ≡ 0 → accepted s (moves-in j) ≡ true
+-- where a replay refuses no move, the first is accepted and none of the others is refused,
+pub replay-cons : (s : State) (i : ℕ) (p a o : ℕ) (rest : List ℕ) → replay s i (p ∷ a ∷ o ∷ rest) .refusal ≡ 0 →
+    (cause s (move-of p a o) ≡ 0) × (replay (next s (move-of p a o)) (suc i) rest .refusal ≡ 0)
+unfolding replay
+replay-cons s i p a o rest = by (cause s (move-of p a o)) (replay (next s (move-of p a o)) (suc i) rest)
+  where
+    by : (n : ℕ) (r : Replay) → if-zero n r (found n (suc i) s) .refusal ≡ 0 → (n ≡ 0) × (r .refusal ≡ 0)
+    by zero r h = (refl, h)
+    by (suc n) r h = absurd (omega arith)
+
+-- so all are accepted
+pub replay-accepted : (s : State) (i : ℕ) (j : List ℕ) → replay s i j .refusal ≡ 0 → accepted s (moves-in j) ≡ true
 unfolding replay accepted moves
 replay-accepted s i [] z = refl
 replay-accepted s i (p ∷ []) z = absurd (omega arith)
 replay-accepted s i (p ∷ a ∷ []) z = absurd (omega arith)
 replay-accepted s i (p ∷ a ∷ o ∷ rest) z =
     let m : Move = move-at (p ∷ a ∷ o ∷ rest) 0 in
-    let t = by (cause s m) (replay (next s m) (suc i) rest) (suc i) s z in
+    let t = replay-cons s i p a o rest z in
     let e : length (p ∷ a ∷ o ∷ rest) / 3 ≡ suc (length rest / 3) = omega arith in
     rw e (both (eq-eqb (cause s m) 0 (t .0)) (replay-accepted (next s m) (suc i) rest (t .1)))
-  where
-    by : (n : ℕ) (r : Replay) (k : ℕ) (x : State) → if-zero n r (found n k x) .refusal ≡ 0 → (n ≡ 0) × (r .refusal ≡ 0)
-    by zero r k x h = (refl, h)
-    by (suc n) r k x h = absurd (omega arith)
 
 -- ---- what the exported function answers
 
@@ -141,52 +155,44 @@ pub record Answers (c : Config) (bytes lent : List ℕ) (n k : ℕ) (after : Lis
   pub words : after ≡ words-written c bytes lent
   pub place : k ≡ replay-place c bytes
 
-module _ (c : Config) (bytes buffer : List ℕ) where
+module _ (c : Config) (bytes buffer : List ℕ) (r : Tried) (e : r ≡ tried-of c bytes) where
+  place-is : r .place ≡ replay-place c bytes
+  place-is = ap (λ (x : Tried). x .place) e
+
   -- refused, the buffer stays
-  kept : (n k : ℕ) → n ≡ words-number c bytes (length buffer) → (n ≡ 0 → ⊥) → k ≡ replay-place c bytes → Answers c bytes buffer n k buffer
+  kept : (n : ℕ) → n ≡ words-number c bytes (length buffer) → (n ≡ 0 → ⊥) → Answers c bytes buffer n (r .place) buffer
   unfolding words-written
-  kept zero k e h p = absurd (h refl)
-  kept (suc n) k e h p = record { number = e; words = rw (← e); place = p }
+  kept zero z h = absurd (h refl)
+  kept (suc n) z h = record { number = z; words = rw (← z); place = place-is }
 
-  pub bad-table : (n : ℕ) → n ≡ config-cause c → (n ≡ 0 → ⊥) → Answers c bytes buffer n 0 buffer
+  pub bad-moves : (r .refusal ≡ 0 → ⊥) → Answers c bytes buffer (r .refusal) (r .place) buffer
   unfolding words-number
-  bad-table zero e h = absurd (h refl)
-  bad-table (suc n) e h = kept (suc n) 0 (rw (← e)) h (table-refused c bytes buffer (suc n) e h .place)
+  bad-moves h = kept (r .refusal) (sym (later-first (config-cause c) (whole c bytes .refusal) _ (r .refusal) (ap (λ (x : Tried). x .refusal) e) h)) h
 
-  module _ (right : config-cause c ≡ 0) (r : Replayed) (f : Replays c bytes r) where
-    number-is : (n : ℕ) → n ≡ whole c bytes .refusal → (n ≡ 0 → ⊥) → n ≡ words-number c bytes (length buffer)
+  module _ (free : r .refusal ≡ 0) where
+    right : config-cause c ≡ 0
+    right = none-first (config-cause c) (whole c bytes .refusal) (sym (ap (λ (x : Tried). x .refusal) e) ∙ free) .0
+
+    accepts : whole c bytes .refusal ≡ 0
+    accepts = none-first (config-cause c) (whole c bytes .refusal) (sym (ap (λ (x : Tried). x .refusal) e) ∙ free) .1
+
+    pub short-buffer : length buffer / 4 < length bytes / 3 → Answers c bytes buffer 10 (r .place) buffer
     unfolding words-number
-    number-is zero e h = absurd (h refl)
-    number-is (suc n) e h = rw (right, ← e)
+    short-buffer h =
+        let short = lt-ltb (length buffer) (4 * length (moves-in bytes)) (omega (arith, length-moves (length bytes / 3) bytes)) in
+        kept 10 (rw (right, accepts, short)) (λ z. omega arith)
 
-    pub bad-move : (r .refusal ≡ 0 → ⊥) → Answers c bytes buffer (r .refusal) (r .place) buffer
-    bad-move h = kept (r .refusal) (r .place) (number-is (r .refusal) (f .refusal) h) h (place-is c bytes buffer right r f)
-
-    module _ (free : r .refusal ≡ 0) where
-      accepts : whole c bytes .refusal ≡ 0
-      accepts = sym (f .refusal) ∙ free
-
-      pub short-buffer : length buffer / 4 < length bytes / 3 → Answers c bytes buffer 10 (r .place) buffer
+    module _ (room : length bytes / 3 ≤ length buffer / 4) where
+      none-refused : 0 ≡ words-number c bytes (length buffer)
       unfolding words-number
-      short-buffer h =
-          let short = lt-ltb (length buffer) (4 * length (moves-in bytes)) (omega (arith, length-moves (length bytes / 3) bytes)) in
-          kept 10 (r .place) (rw (right, accepts, short)) (λ z. omega arith) (place-is c bytes buffer right r f)
+      none-refused =
+          let fits = le-ltb (length buffer) (4 * length (moves-in bytes)) (omega (arith, length-moves (length bytes / 3) bytes)) in
+          rw (right, accepts, fits)
 
-      module _ (room : length bytes / 3 ≤ length buffer / 4) where
-        none-refused : 0 ≡ words-number c bytes (length buffer)
-        unfolding words-number
-        none-refused =
-            let fits = le-ltb (length buffer) (4 * length (moves-in bytes)) (omega (arith, length-moves (length bytes / 3) bytes)) in
-            rw (right, accepts, fits)
-
-        pub all-written : (s : Record) → s ≡ start-record (c .P) (c .T) (c .M) (c .B) (c .stealing) →
-            (out : List ℕ) → out ≡ with-front buffer (made-words s (moves-in bytes)) → Answers c bytes buffer 0 (r .place) out
-        unfolding words-written run accepted
-        all-written s e out w =
-            let words : made-words s (moves-in bytes) ≡ words-of (start c) (moves-in bytes) =
-            ap (λ (x : Record). made-words x (moves-in bytes)) (e ∙ start-shown c right) ∙ words-made c right (moves-in bytes) [] refl (replay-accepted (start c) 0 bytes accepts) in
-            record {
-              number = none-refused;
-              words = w ∙ ap (with-front buffer) words ∙ rw (← none-refused);
-              place = place-is c bytes buffer right r f;
-            }
+      pub all-written : (s : Record) → s ≡ start-record (c .P) (c .T) (c .M) (c .B) (c .stealing) →
+          (out : List ℕ) → out ≡ with-front buffer (made-words s (moves-in bytes)) → Answers c bytes buffer 0 (r .place) out
+      unfolding words-written run accepted
+      all-written s z out w =
+          let words : made-words s (moves-in bytes) ≡ words-of (start c) (moves-in bytes) =
+          ap (λ (x : Record). made-words x (moves-in bytes)) (z ∙ start-shown c right) ∙ words-made c right (moves-in bytes) [] refl (replay-accepted (start c) 0 bytes accepts) in
+          record { number = none-refused; words = w ∙ ap (with-front buffer) words ∙ rw (← none-refused); place = place-is }

@@ -6,21 +6,26 @@ ghost use Rattle.picture.specs.Picture.{read-refusal};
 ghost use Rattle.mark.specs.Mark.{answer};
 ghost use Rattle.exports.specs.Replay.{replay-refusal, replay-place, replay-buffer};
 ghost use Rattle.exports.specs.Words.{words-number, words-written};
+ghost use Rattle.exports.specs.Independent.{independent-answer};
 ghost use Rattle.exports.specs.Turns.{ahead-answer};
 ghost use Rattle.exports.specs.Class.{class-number, class-answered, class-pictured};
 
+mod neighbours;
 mod replay;
 mod words;
 
+use crate::neighbours::independent;
 use crate::replay::replay;
+use crate::replay::try_moves;
 use crate::words::put_words;
 use picture::answer::Ahead;
 use state::State;
 use state::refusal::Refusal;
 
-// Turns ahead: a thread that does not wait, and what a refusal's number is added to.
+// Turns ahead: a thread that does not wait.
 const NOT_WAITING: u8 = 100;
 
+// What a refusal's number is added to where small numbers are answers.
 const REFUSED: u8 = 200;
 
 // What a refusal's number is added to where a mark is asked for.
@@ -95,15 +100,9 @@ pub extern "C" fn humdayeg_words(
     ensures written { λ r. ⌜ now (words .exit) ≡ words-written (table p t m b stealing) (now (moves .entry)) (now (words .entry)) ⌝ }
     ensures place { λ r. ⌜ now (place .exit) ≡ replay-place (table p t m b stealing) (now (moves .entry)) ⌝ }
 {
-    *place = 0;
-    let started = session::start(p, t, m, b, stealing);
-    let bad = started.refusal;
-    if bad != 0 {
-        return bad;
-    }
-    let replayed = replay(p, t, m, b, stealing, moves);
-    *place = replayed.place;
-    let number = replayed.refusal;
+    let tried = try_moves(p, t, m, b, stealing, moves);
+    *place = tried.place;
+    let number = tried.refusal;
     if number != 0 {
         return number;
     }
@@ -113,6 +112,41 @@ pub extern "C" fn humdayeg_words(
     let s = State::start(p, t, m, b, stealing);
     put_words(s, moves, words);
     0
+}
+
+// Replays moves as humdayeg_replay_with does, with the same places, and says whether the moves at places `first` and `first` + 1, counted from 1, may change
+// places: 1 or 0; 200 plus 1, the number of the first refused move, or 3 where there are no two moves at these places.
+#[no_mangle]
+pub extern "C" fn humdayeg_independent(
+    p: u8,
+    t: u8,
+    m: u8,
+    b: u8,
+    stealing: u8,
+    moves: &[u8],
+    first: u32,
+    place: &mut u32,
+) -> u8
+    ensures answer { λ r. ⌜ r ≡ independent-answer (table p t m b stealing) (now (moves .entry)) first ⌝ }
+    ensures place { λ r. ⌜ now (place .exit) ≡ replay-place (table p t m b stealing) (now (moves .entry)) ⌝ }
+{
+    let tried = try_moves(p, t, m, b, stealing, moves);
+    *place = tried.place;
+    let number = tried.refusal;
+    if number != 0 {
+        return REFUSED + number;
+    }
+    let k = first as usize;
+    if k == 0 {
+        return REFUSED + Refusal::BAD_OPERAND;
+    }
+    if moves.len() / 3 <= k {
+        return REFUSED + Refusal::BAD_OPERAND;
+    }
+    let from = 3 * (k - 1);
+    let before = replay(p, t, m, b, stealing, &moves[..from]);
+    let s = before.state;
+    if independent(s, moves, from) { 1 } else { 0 }
 }
 
 // The number that reading a picture gets: 11, 12, 13 or 14, or 0.

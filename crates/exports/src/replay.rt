@@ -2,7 +2,7 @@
 ghost use mathlib.Core.Path.{_≡_};
 ghost use Rattle.reference.specs.Start.{config-cause};
 ghost use Rattle.session.specs.Contract.{table};
-ghost use Rattle.exports.specs.model.Replayed.{Replays};
+ghost use Rattle.exports.specs.model.Replayed.{Replays, tried-of};
 use state::State;
 use state::refusal::Refusal;
 use step::moves::run;
@@ -42,5 +42,29 @@ pub(crate) fn replay(p: u8, t: u8, m: u8, b: u8, stealing: u8, moves: &[u8]) -> 
         refusal: 0,
         place: 0,
         state,
+    }
+}
+
+// The first refusal of a table and moves: the table's number, or that of the first refused move with its place; 0 and 0 where there is none.
+pub(crate) struct Tried {
+    pub refusal: u8,
+    pub place: u32,
+}
+
+pub(crate) fn try_moves(p: u8, t: u8, m: u8, b: u8, stealing: u8, moves: &[u8]) -> Tried
+    ensures { λ r. ⌜ r ≡ tried-of (table p t m b stealing) (now (moves .entry)) ⌝ }
+{
+    let started = session::start(p, t, m, b, stealing);
+    let bad = started.refusal;
+    if bad != 0 {
+        return Tried {
+            refusal: bad,
+            place: 0,
+        };
+    }
+    let found = replay(p, t, m, b, stealing, moves);
+    Tried {
+        refusal: found.refusal,
+        place: found.place,
     }
 }

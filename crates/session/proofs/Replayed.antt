@@ -28,7 +28,7 @@ use Rattle.reference.specs.Session.{moves, all-but-last}
 abbrev pub move-at : List ℕ → ℕ → Move
 move-at j i = record { processor = getD j (3 * i) 0; action = getD j (3 * i + 1) 0; operand = getD j (3 * i + 2) 0 }
 
-move-later : (j : List ℕ) (i : ℕ) → move-at (drop 3 j) i ≡ move-at j (suc i)
+pub move-later : (j : List ℕ) (i : ℕ) → move-at (drop 3 j) i ≡ move-at j (suc i)
 move-later j i =
     let a : getD (drop 3 j) (3 * i) 0 ≡ getD j (3 * suc i) 0 = getD-drop 3 j (3 * i) 0 ∙ ap (λ (n : ℕ). getD j n 0) (omega arith) in
     let b : getD (drop 3 j) (3 * i + 1) 0 ≡ getD j (3 * suc i + 1) 0 = getD-drop 3 j (3 * i + 1) 0 ∙ ap (λ (n : ℕ). getD j n 0) (omega arith) in
