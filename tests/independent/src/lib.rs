@@ -1,7 +1,8 @@
 //! An independent implementation of the hand-off machine of document 01, of the
 //! journal's test at each call (document 02, No. 6), of scripted threads (No. 7),
 //! of exits that owners are refused (No. 9), of marks (No. 12), of a ready queue for
-//! each processor (No. 13) and of the words that a move touches (No. 4).
+//! each processor (No. 13), of the words that a move touches (No. 4) and of neighbours
+//! that may change places (No. 5).
 //!
 //! Terms of document 01 and the names used here: loaded is `current`, hand is
 //! `transit`, rank is `sequence`, seen is `observed`, standing moves are
@@ -12,6 +13,7 @@
 //!
 //! - `machine`: the state with plain queues, the start and the lines.
 //! - `touch`: which words a move reads and writes.
+//! - `independence`: which neighbouring moves may change places.
 //! - `record`: the state as tables with chains, its rules, both conversions.
 //! - `picture`: a snapshot's bytes, written and read.
 //! - `journal`: a lent journal's replay and test.
@@ -35,6 +37,7 @@
 pub mod chains;
 pub mod chart;
 pub mod course;
+pub mod independence;
 pub mod journal;
 pub mod lines;
 pub mod machine;

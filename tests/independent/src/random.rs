@@ -28,6 +28,7 @@
 use crate::machine::{
     Config, Life, Move, Position, State, Token, CREATE, EXIT, GO, LOCK, TRYLOCK, UNLOCK, YIELD,
 };
+use crate::worked::Worked;
 
 /// Splitmix64.
 #[derive(Clone, Debug)]
@@ -176,6 +177,18 @@ impl Driver {
         };
         let owners: Vec<u8> = (1..=state.processor_count()).filter(owns).collect();
         (!owners.is_empty()).then(|| [self.generator.pick(&owners), EXIT, 0])
+    }
+
+    /// A session of so many moves that are all accepted.
+    pub fn session(&mut self, config: Config, count: usize) -> Worked {
+        let mut worked = Worked::new(config);
+        let mut state = State::start(config);
+        for _ in 0..count {
+            let made = self.likely_move(&state);
+            state.try_move(made).expect("a likely move is accepted");
+            worked.moves.push(made);
+        }
+        worked
     }
 
     /// A move that the state accepts (unless 4,000 are applied).

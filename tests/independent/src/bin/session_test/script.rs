@@ -460,15 +460,7 @@ fn damaged(s: &mut Script, name: &str, record: &Record, made: Move, few: bool) {
 
 /// An accepted session of random moves.
 fn random(config: Config, seed: u64, count: usize) -> Worked {
-    let mut driver = Driver::new(seed, Rates::ACCEPTED);
-    let mut state = State::start(config);
-    let mut worked = Worked::new(config);
-    for _ in 0..count {
-        let made = driver.likely_move(&state);
-        state.try_move(made).expect("a likely move is accepted");
-        worked = worked.call(made[0], made[1], made[2]);
-    }
-    worked
+    Driver::new(seed, Rates::ACCEPTED).session(config, count)
 }
 
 fn damaged_records(s: &mut Script) {

@@ -18,15 +18,7 @@ fn text(worked: &Worked) -> String {
 
 /// A session of random moves that are all accepted.
 fn random(seed: u64, config: Config, count: usize) -> Worked {
-    let mut driver = Driver::new(seed, Rates::ACCEPTED);
-    let mut worked = Worked::new(config);
-    let mut state = worked.state();
-    for _ in 0..count {
-        let made = driver.likely_move(&state);
-        state.try_move(made).expect("a likely move is accepted");
-        worked.moves.push(made);
-    }
-    worked
+    Driver::new(seed, Rates::ACCEPTED).session(config, count)
 }
 
 /// Looks by a processor without a thread: round all queues, or at the single one.
