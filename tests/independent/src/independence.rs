@@ -1,5 +1,5 @@
-//! Neighbours that may change places (document 02, No. 5): two accepted moves of different
-//! processors, one right after the other, where neither writes a word that the other touches.
+//! Neighbours that may change places (document 02, No. 5): accepted moves of two processors, one
+//! right after the other, with no word that one of them writes and the other touches.
 
 use crate::machine::{Config, Move, State};
 use crate::touch::{self, Touch, Word};
