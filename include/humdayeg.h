@@ -25,7 +25,8 @@ extern "C" {
 enum {
     HUMDAYEG_BAD_TABLE = 1,     /* P, T, M, B or the fifth number outside its range */
     HUMDAYEG_NO_PROCESSOR = 2,  /* no such processor */
-    HUMDAYEG_BAD_OPERAND = 3,   /* action over 6, or operand not as the action wants it */
+    HUMDAYEG_BAD_OPERAND = 3,   /* action over 6, or operand not as the action wants it; asked
+                                   about a thread, or two moves, that are not there */
     HUMDAYEG_CALL_AWAY = 4,     /* call elsewhere than at App */
     HUMDAYEG_GO_AT_APP = 5,     /* go at App */
     HUMDAYEG_NOT_OWNER = 6,     /* unlock by a thread that is not the owner */
@@ -39,6 +40,10 @@ enum {
     HUMDAYEG_BAD_SCRIPT = 19,   /* scripts too short, over 6 calls, or an action outside 1 to 6 */
     HUMDAYEG_STILL_OWNER = 21   /* exit by a thread that owns a mutex */
 };
+
+/* humdayeg_independent and humdayeg_ahead add it to a refusal's number; their other answers are
+   under it. */
+#define HUMDAYEG_REFUSED 200
 
 /* The most moves that can stand, and the bytes of a move. */
 #define HUMDAYEG_MOST_MOVES 4000
@@ -148,6 +153,33 @@ uint8_t humdayeg_words(uint8_t p, uint8_t t, uint8_t m, uint8_t b, uint8_t steal
                        uint32_t *place);
 
 /*
+ * Replays moves from a start table and tells whether two neighbours among them may change places:
+ * whether they are of different processors and neither writes a word that the other reads or
+ * writes. Each one's words are those that humdayeg_words gives for it where it stands.
+ *
+ * p, t, m, b, stealing: the start table, as for humdayeg_replay_with.
+ * moves: moves_len bytes, as for humdayeg_replay.
+ * first: the place of the earlier one, counted from 1. The later one is at first + 1.
+ * place: set at every call, as by humdayeg_replay.
+ *
+ * Answers, the first that is there:
+ *     HUMDAYEG_REFUSED + 1     the table is outside its ranges; place is 0
+ *     HUMDAYEG_REFUSED + n     the first refused move of the whole list has the number n, 2 to 8
+ *                              or 21, and this place, as by humdayeg_replay
+ *     HUMDAYEG_REFUSED + 3     every move is accepted, and there are no moves at both places, as
+ *                              first is 0 or not under the number of moves; place is 0
+ *     0                        they may not; place is 0
+ *     1                        they may; place is 0. With the two exchanged every move of the
+ *                              list is accepted, the picture after the last is the same, each of
+ *                              the two has the words that it had, and they may change places again.
+ * Where it is 0, the list with the two exchanged may be refused, lead elsewhere, or lead to the same
+ * picture after all: humdayeg_replay_with tells.
+ */
+uint8_t humdayeg_independent(uint8_t p, uint8_t t, uint8_t m, uint8_t b, uint8_t stealing,
+                             const uint8_t *moves, size_t moves_len,
+                             uint32_t first, uint32_t *place);
+
+/*
  * Takes the turns of a class from a start table, each thread calling by its script, and writes
  * the picture after each turn.
  *
@@ -213,7 +245,6 @@ uint8_t humdayeg_read(const uint8_t *picture, size_t picture_len);
  *                              the picture is right and the thread outside 1 to T
  */
 #define HUMDAYEG_NOT_WAITING 100
-#define HUMDAYEG_REFUSED 200
 
 uint8_t humdayeg_ahead(const uint8_t *picture, size_t picture_len, uint8_t thread);
 

@@ -4,14 +4,7 @@
  * queues, refusals with their places, and buffers of every length. Prints a line for each failed
  * check and one with the counts.
  */
-#include "checks.h"
-
-#include <string.h>
-
-/* A start table. */
-struct table {
-    uint8_t p, t, m, b, stealing;
-};
+#include "lists.h"
 
 enum { MOST_BYTES = 128 };
 
@@ -82,8 +75,6 @@ static int touches(struct table s, const uint8_t *moves, size_t length, const ch
     return strcmp(text, wanted) == 0;
 }
 
-static const struct table TWO = {2, 2, 1, 2, 0};
-
 static void constants(void) {
     check(HUMDAYEG_TOUCH_BYTES == 4, "the bytes of what a move touches");
     check(HUMDAYEG_WORD_NONE == 0 && HUMDAYEG_WORD_COUNT == 1 && HUMDAYEG_WORD_TOKEN == 2,
@@ -141,28 +132,15 @@ static void looks(void) {
           "a thread taken from another's queue");
 }
 
-/* K5 with one more move after it. */
-static struct outcome after_k5(const uint8_t *move) {
-    uint8_t moves[sizeof K5 + HUMDAYEG_MOVE_BYTES];
-    memcpy(moves, K5, sizeof K5);
-    memcpy(moves + sizeof K5, move, HUMDAYEG_MOVE_BYTES);
-    return words(TWO, moves, sizeof moves);
-}
-
 static void refusals(void) {
     const uint32_t next = sizeof K5 / 3 + 1;
-    static const struct {
-        uint8_t move[HUMDAYEG_MOVE_BYTES], number;
-    } rows[] = {{{3, 0, 0}, HUMDAYEG_NO_PROCESSOR}, {{1, 7, 0}, HUMDAYEG_BAD_OPERAND},
-                {{1, 0, 1}, HUMDAYEG_BAD_OPERAND},  {{1, 0, 0}, HUMDAYEG_GO_AT_APP},
-                {{1, 3, 1}, HUMDAYEG_NOT_OWNER},    {{2, 6, 1}, HUMDAYEG_NOT_NEW},
-                {{2, 5, 0}, HUMDAYEG_STILL_OWNER}};
-    for (size_t i = 0; i < sizeof rows / sizeof rows[0]; i++) {
-        struct outcome out = after_k5(rows[i].move);
-        check(refused(&out, rows[i].number, next), "a refused move, its number and place");
+    for (size_t i = 0; i < REFUSED_COUNT; i++) {
+        const struct longer list = after_k5(REFUSED_AFTER_K5[i].move);
+        struct outcome out = words(TWO, list.moves, sizeof list.moves);
+        check(refused(&out, REFUSED_AFTER_K5[i].number, next),
+              "a refused move, its number and place");
     }
-    static const uint8_t twice[] = {1, 4, 0, 1, 4, 0, 9, 9, 9};
-    struct outcome out = words(TWO, twice, sizeof twice);
+    struct outcome out = words(TWO, TWICE, sizeof TWICE);
     check(refused(&out, HUMDAYEG_CALL_AWAY, 2), "the first refused move decides");
     for (size_t left = 1; left <= 2; left++) {
         out = words(TWO, K5, sizeof K5 - left);
@@ -173,13 +151,10 @@ static void refusals(void) {
 }
 
 static void tables(void) {
-    static const struct table bad[] = {{0, 2, 1, 2, 0}, {9, 2, 1, 2, 0}, {2, 33, 1, 2, 0},
-                                       {2, 2, 0, 2, 0}, {2, 2, 9, 2, 0}, {2, 2, 1, 3, 0},
-                                       {2, 2, 1, 0, 0}, {2, 2, 1, 2, 2}, {2, 2, 1, 2, 255}};
-    for (size_t i = 0; i < sizeof bad / sizeof bad[0]; i++) {
-        struct outcome out = words(bad[i], K5, sizeof K5);
+    for (size_t i = 0; i < BAD_TABLE_COUNT; i++) {
+        struct outcome out = words(BAD_TABLES[i], K5, sizeof K5);
         check(refused(&out, HUMDAYEG_BAD_TABLE, 0), "a bad table");
-        out = words_in(bad[i], K5, 2, 0);
+        out = words_in(BAD_TABLES[i], K5, 2, 0);
         check(refused(&out, HUMDAYEG_BAD_TABLE, 0), "before bytes left over and a short buffer");
     }
 }
