@@ -113,14 +113,20 @@ static void hand_off(void) {
     check(answers(ask(TWO, other.moves, sizeof close, 8), 0), "they may not change back");
 }
 
-/* The first of two at L1 owns the mutex. */
-static void locks(void) {
-    static const uint8_t moves[] = {1, 1, 1, 2, 1, 1, 1, 0, 0, 2, 0, 0};
+/* Thread 1 locks and thread 2 makes a call, lock or trylock: the first to count owns the mutex. */
+static void first_come(uint8_t call) {
+    const uint8_t moves[] = {1, 1, 1, 2, call, 1, 1, 0, 0, 2, 0, 0};
     at_every_place(TWO, moves, sizeof moves, "110");
     const struct played list = play(TWO, moves, sizeof moves);
     const struct played other = exchange(TWO, list, sizeof moves, 3);
-    check(list.picture[MUTEX] == 2 && other.picture[MUTEX] == 2, "both are counted");
+    check(list.picture[MUTEX] == (call == 1 ? 2 : 1), "a failed trylock does not count");
+    check(other.picture[MUTEX] == 2, "a lock does");
     check(list.picture[MUTEX + 2] == 1 && other.picture[MUTEX + 2] == 2, "either owns it");
+}
+
+static void locks(void) {
+    first_come(1);
+    first_come(2);
     static const struct table mutexes = {2, 2, 2, 2, 0};
     static const uint8_t different[] = {1, 1, 1, 2, 1, 2, 1, 0, 0, 2, 0, 0};
     at_every_place(mutexes, different, sizeof different, "111");
