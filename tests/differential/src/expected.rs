@@ -1,6 +1,7 @@
 //! What the library is to answer, worked out by the package `independent`.
 
 use crate::{Ahead, Replayed, Table, TOUCH};
+use independent::independence;
 use independent::journal::JOURNAL;
 use independent::machine::{Config, State};
 use independent::marks;
@@ -69,6 +70,11 @@ pub fn words(table: Table, stealing: u8, moves: &[u8], buffer: &[u8]) -> (Replay
             (answer(0, 0), after)
         }
     }
+}
+
+/// The answer about two neighbours and the place of a refused move.
+pub fn neighbours(table: Table, stealing: u8, moves: &[u8], first: u32) -> (u8, u32) {
+    independence::answer(config(table).with_stealing(stealing), moves, first)
 }
 
 /// The answer to a class, with its moves as bytes; both buffers become what they are after it.

@@ -42,6 +42,17 @@ mod c {
             words_len: usize,
             place: *mut u32,
         ) -> u8;
+        pub fn humdayeg_independent(
+            p: u8,
+            t: u8,
+            m: u8,
+            b: u8,
+            stealing: u8,
+            moves: *const u8,
+            moves_len: usize,
+            first: u32,
+            place: *mut u32,
+        ) -> u8;
         pub fn humdayeg_class(
             p: u8,
             t: u8,
@@ -168,6 +179,28 @@ pub fn replay_with(table: Table, stealing: u8, moves: &[u8], picture: &mut [u8])
 /// nothing.
 pub fn words(table: Table, stealing: u8, moves: &[u8], words: &mut [u8]) -> Replayed {
     replaying(c::humdayeg_words, table, stealing, moves, words)
+}
+
+/// Whether the moves at places `first` and `first + 1` of a list may change places, 1 or 0, or 200 and
+/// the number of a refusal; then the place of the refused move, 0 for none.
+pub fn neighbours(table: Table, stealing: u8, moves: &[u8], first: u32) -> (u8, u32) {
+    let [p, t, m, b] = table;
+    let mut place = u32::MAX;
+    // As above.
+    let answer = unsafe {
+        c::humdayeg_independent(
+            p,
+            t,
+            m,
+            b,
+            stealing,
+            moves.as_ptr(),
+            moves.len(),
+            first,
+            &mut place,
+        )
+    };
+    (answer, place)
 }
 
 /// Takes the turns of a class under scripts from a start table, with the number of each turn in

@@ -1,8 +1,10 @@
 //! Sessions to compare: lists of moves and the states on the way, from a seed.
 
-use crate::{expected, replay, replay_with, words, Table};
-use independent::machine::{Move, State};
+use crate::{expected, neighbours, replay, replay_with, words, Table};
+use independent::machine::{Move, State, EXIT};
+use independent::owners;
 use independent::random::{Call, Driver, Generator, Rates};
+use independent::worked::{self, Worked};
 use std::ops::Range;
 
 /// A start table with its choice of ready queues, accepted moves as bytes, and the state after
@@ -18,6 +20,12 @@ impl Session {
     pub fn new(table: Table, stealing: u8) -> Session {
         let start = State::start(expected::config(table).with_stealing(stealing));
         Session { table, stealing, moves: Vec::new(), states: vec![start] }
+    }
+
+    pub fn of(worked: &Worked) -> Session {
+        let mut session = Session::new(expected::table(worked.config), worked.config.stealing);
+        worked.moves.iter().for_each(|&made| session.make(made).expect("an accepted move"));
+        session
     }
 
     pub fn state(&self) -> &State {
@@ -124,6 +132,53 @@ pub fn compare_words(table: Table, stealing: u8, moves: &[u8], length: usize) {
     let (wanted, buffer) = expected::words(table, stealing, moves, &before);
     assert_eq!(answer, wanted, "{table:?} {stealing}, {} bytes, buffer {length}", moves.len());
     assert!(after == buffer, "{table:?} {stealing}, {} bytes, buffer {length}", moves.len());
+}
+
+/// Compares the answer about two neighbours.
+pub fn compare_neighbours(table: Table, stealing: u8, moves: &[u8], first: u32) {
+    let wanted = expected::neighbours(table, stealing, moves, first);
+    let answer = neighbours(table, stealing, moves, first);
+    assert_eq!(answer, wanted, "{table:?} {stealing}, {} bytes, place {first}", moves.len());
+}
+
+/// A start table, its fifth number and moves, refused or not.
+pub type List = (Table, u8, Vec<u8>);
+
+/// The worked sessions' moves with each choice of ready queues.
+pub fn worked_lists() -> Vec<List> {
+    let stolen = [1, 2, 3].map(worked::steals);
+    let all = worked::hand_offs().into_iter().chain(stolen).chain([worked::own_queues()]);
+    let list = |worked: Worked| (expected::table(worked.config), worked.moves.concat());
+    all.map(list).flat_map(|(table, moves)| [0, 1].map(|n| (table, n, moves.clone()))).collect()
+}
+
+/// The table with each of its numbers replaced by n in turn.
+pub fn tables_with(n: u8) -> [Table; 4] {
+    [[n, 5, 2, 3], [2, n, 2, 3], [2, 5, n, 3], [2, 5, 2, n]]
+}
+
+/// Every processor's go and every call, with right operands and wrong ones.
+pub fn every_move([p, t, m, _]: Table) -> Vec<Move> {
+    let mut all = Vec::new();
+    for processor in 0..=p + 1 {
+        for (action, most) in [(0, 0), (1, m), (2, m), (3, m), (4, 0), (5, 0), (6, t), (7, 0)] {
+            all.extend([0, 1, most, most + 1].map(|operand| [processor, action, operand]));
+        }
+    }
+    all
+}
+
+/// Moves of small bytes, whatever they mean.
+pub fn any_list(generator: &mut Generator) -> List {
+    let table = expected::table(generator.config());
+    let (stealing, length) = (generator.between(0, 1), generator.below(40));
+    (table, stealing, (0..length).map(|_| generator.between(0, 4)).collect())
+}
+
+/// Exits that owners are refused, each with the session before it.
+pub fn owner_exits() -> impl Iterator<Item = (Session, Move)> {
+    let all = owners::owning(0).into_iter().chain(owners::owning(1));
+    all.map(|owning| (Session::of(&owning.session), [owning.p, EXIT, 0]))
 }
 
 /// Some bytes that may follow a refused move.

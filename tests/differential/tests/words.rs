@@ -1,13 +1,13 @@
 //! The words of moves through the static library against the independent machine, byte for byte.
 
-use differential::expected;
-use differential::sessions::{compare_words, drive, drive_with, patterned, tail, Session};
+use differential::sessions::{
+    any_list, compare_words, drive, drive_with, every_move, owner_exits, patterned, tables_with,
+    tail, worked_lists, Session,
+};
 use differential::{words, Replayed, TOUCH};
 use independent::machine::{Move, EXIT, GO, MOST_MOVES};
-use independent::owners;
-use independent::random::{Driver, Generator, Rates};
+use independent::random::{Generator, Rates};
 use independent::touch::Touch;
-use independent::worked;
 use std::collections::{BTreeMap, BTreeSet};
 
 /// The words of a session's moves, worked out from the states on the way.
@@ -93,7 +93,7 @@ fn lengths_of_buffers() {
 fn start_tables() {
     let moves = [1, 4, 0, 1, 0, 0, 1];
     for n in 0..=255 {
-        for table in [[n, 5, 2, 3], [2, n, 2, 3], [2, 5, n, 3], [2, 5, 2, n]] {
+        for table in tables_with(n) {
             for length in [0, 8] {
                 compare_words(table, n % 3, &moves[..6], length);
                 compare_words(table, n % 2, &moves, length);
@@ -105,34 +105,20 @@ fn start_tables() {
     }
 }
 
-/// Worked sessions, both choices.
 #[test]
 fn worked_sessions() {
-    let stolen = [1, 2, 3].map(worked::steals);
-    for worked in worked::hand_offs().into_iter().chain(stolen).chain([worked::own_queues()]) {
-        let table = expected::table(worked.config);
-        for stealing in [0, 1] {
-            let length = TOUCH * worked.moves.len();
-            compare_words(table, stealing, &worked.moves.concat(), length);
-        }
+    for (table, stealing, moves) in worked_lists() {
+        compare_words(table, stealing, &moves, TOUCH * moves.len() / 3);
     }
 }
 
-/// Every processor's go and every call after random sessions, wrong ones too.
 #[test]
-fn every_move() {
+fn every_move_after_random_sessions() {
     for seed in 0..120 {
         let session = drive(seed, Rates::ACCEPTED, 10 + seed as usize, |_, _| ());
-        let [p, t, m, _] = session.table;
-        for processor in 0..=p + 1 {
-            for (action, most) in [(0, 0), (1, m), (2, m), (3, m), (4, 0), (5, 0), (6, t), (7, 0)] {
-                for operand in [0, 1, most, most + 1] {
-                    let made = [processor, action, operand];
-                    let moves = [&session.moves[..], &made].concat();
-                    let room = TOUCH * moves.len() / 3;
-                    compare_words(session.table, session.stealing, &moves, room);
-                }
-            }
+        for made in every_move(session.table) {
+            let moves = [&session.moves[..], &made].concat();
+            compare_words(session.table, session.stealing, &moves, TOUCH * moves.len() / 3);
         }
     }
 }
@@ -156,15 +142,8 @@ fn long_sessions() {
 
 /// Owners that try to exit.
 #[test]
-fn owner_exits() {
-    for stealing in [0, 1] {
-        for owning in owners::owning(stealing) {
-            let config = owning.session.config;
-            let mut session = Session::new(expected::table(config), stealing);
-            owning.session.moves.iter().for_each(|&made| session.make(made).unwrap());
-            refuses(&session, [owning.p, EXIT, 0], &[]);
-        }
-    }
+fn exits_by_owners() {
+    owner_exits().for_each(|(session, exit)| refuses(&session, exit, &[]));
     let rates = Rates { refused: 0, undo: 0, owner_exits: 4 };
     for seed in 0..40 {
         drive_with((seed % 2) as u8, seed, rates, 150, |session, made| {
@@ -177,13 +156,9 @@ fn owner_exits() {
 #[test]
 fn any_bytes() {
     for seed in 0..400 {
-        let mut driver = Driver::new(seed, Rates::USUAL);
-        let table = expected::table(driver.generator.config());
-        let stealing = driver.generator.between(0, 1);
-        let length = driver.generator.below(40);
-        let small = |generator: &mut Generator| generator.between(0, 4);
-        let moves: Vec<u8> = (0..length).map(|_| small(&mut driver.generator)).collect();
-        let room = driver.generator.below(60);
+        let mut generator = Generator::new(seed);
+        let (table, stealing, moves) = any_list(&mut generator);
+        let room = generator.below(60);
         compare_words(table, stealing, &moves, room);
     }
 }
