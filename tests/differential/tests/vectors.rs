@@ -1,9 +1,9 @@
-//! The stored vectors through the static library: pictures, turns ahead, classes, marks, words, and
-//! the program's sessions with each answer worked out by a replay.
+//! The stored vectors through the static library: pictures, turns ahead, classes, marks, words,
+//! neighbours, and the program's sessions with each answer worked out by a replay.
 
 use differential::{
-    ahead, class, class_with, mark, read, replay_with, words, Ahead, Replayed, Table, MOST_PICTURE,
-    TOUCH,
+    ahead, class, class_with, mark, neighbours, read, replay_with, words, Ahead, Replayed, Table,
+    MOST_PICTURE, TOUCH,
 };
 use std::collections::BTreeMap;
 use std::fs;
@@ -240,14 +240,18 @@ fn lists_of_marks() {
     }
 }
 
+/// The fields of a file, one a line.
+fn fields(text: &str) -> BTreeMap<&str, &str> {
+    text.lines().map(|line| line.split_once(' ').unwrap()).collect()
+}
+
 /// The moves' words, and no byte behind them.
 #[test]
 fn words_of_moves() {
     let mut moves_met = 0;
     for path in files("words", ".txt") {
         let text = text(&path);
-        let fields: BTreeMap<&str, &str> =
-            text.lines().map(|line| line.split_once(' ').unwrap()).collect();
+        let fields = fields(&text);
         let ((table, fifth), moves) = (table(fields["table"]), unhex(fields["moves"]));
         let count = moves.len() / 3;
         let mut got = vec![0xa5; TOUCH * count + 1];
@@ -260,17 +264,22 @@ fn words_of_moves() {
     assert!(moves_met > 7_000, "{moves_met}");
 }
 
+/// The numbers of a line, and the bytes behind them.
+fn boundary(line: &str) -> (Vec<u32>, Vec<u8>) {
+    let (numbers, moves) = line.rsplit_once(' ').unwrap();
+    (numbers.split(' ').map(|word| word.parse().unwrap()).collect(), unhex(moves))
+}
+
 #[test]
 fn boundaries_of_words() {
     let mut met = BTreeMap::new();
     for path in files("words", ".list") {
         for line in text(&path).lines() {
-            let (numbers, moves) = line.rsplit_once(' ').unwrap();
-            let all: Vec<u32> = numbers.split(' ').map(|word| word.parse().unwrap()).collect();
+            let (all, moves) = boundary(line);
             let &[number, place, p, t, m, b, stealing, length] = &all[..] else { panic!("{line}") };
             let table = [p, t, m, b].map(|size| size as u8);
             let mut buffer = vec![0xa5; length as usize];
-            let got = words(table, stealing as u8, &unhex(moves), &mut buffer);
+            let got = words(table, stealing as u8, &moves, &mut buffer);
             assert_eq!(got, Replayed { number: number as u8, place }, "{line}");
             if number != 0 {
                 assert!(buffer.iter().all(|&byte| byte == 0xa5), "{line}");
@@ -279,6 +288,40 @@ fn boundaries_of_words() {
         }
     }
     assert!(met.into_keys().eq([0, 1, 2, 3, 4, 5, 6, 7, 10, 21]));
+}
+
+#[test]
+fn neighbours_of_moves() {
+    let mut met = [0, 0];
+    for path in files("neighbours", ".txt") {
+        let text = text(&path);
+        let fields = fields(&text);
+        let ((table, fifth), moves) = (table(fields["table"]), unhex(fields["moves"]));
+        assert_eq!(fields["answers"].len(), moves.len() / 3 - 1);
+        for (first, digit) in (1..).zip(fields["answers"].bytes()) {
+            let wanted = digit - b'0';
+            let got = neighbours(table, fifth.unwrap_or(0), &moves, first);
+            assert_eq!(got, (wanted, 0), "{} {first}", path.display());
+            met[usize::from(wanted)] += 1;
+        }
+    }
+    assert!(met[0] > 700 && met[1] > 700, "{met:?}");
+}
+
+#[test]
+fn boundaries_of_neighbours() {
+    let mut met = BTreeMap::new();
+    for path in files("neighbours", ".list") {
+        for line in text(&path).lines() {
+            let (all, moves) = boundary(line);
+            let &[answer, place, p, t, m, b, stealing, first] = &all[..] else { panic!("{line}") };
+            let table = [p, t, m, b].map(|size| size as u8);
+            let got = neighbours(table, stealing as u8, &moves, first);
+            assert_eq!(got, (answer as u8, place), "{line}");
+            *met.entry(answer).or_insert(0) += 1;
+        }
+    }
+    assert!(met.into_keys().eq([0, 1, 201, 202, 203, 204, 205, 206, 207, 221]));
 }
 
 /// The line program's session as a start table and the list of its standing moves.

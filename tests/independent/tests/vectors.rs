@@ -7,7 +7,8 @@ use std::io::Write;
 use std::path::{Path, PathBuf};
 use std::process::{Command, Stdio};
 
-const FOLDERS: [&str; 7] = ["pictures", "sessions", "course", "turns", "classes", "marks", "words"];
+const FOLDERS: [&str; 8] =
+    ["pictures", "sessions", "course", "turns", "classes", "marks", "words", "neighbours"];
 
 fn stored() -> PathBuf {
     Path::new(env!("CARGO_MANIFEST_DIR")).join("../vectors")

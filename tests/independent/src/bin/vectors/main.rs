@@ -5,6 +5,7 @@ mod classes;
 mod course;
 mod course_marks;
 mod marks;
+mod neighbours;
 mod owner_exits;
 mod pictures;
 mod sessions;
@@ -54,5 +55,6 @@ fn main() -> io::Result<()> {
     turns::write_all(&Folder::new(root, "turns")?)?;
     classes::write_all(&Folder::new(root, "classes")?)?;
     marks::write_all(&Folder::new(root, "marks")?)?;
-    words::write_all(&Folder::new(root, "words")?)
+    words::write_all(&Folder::new(root, "words")?)?;
+    neighbours::write_all(&Folder::new(root, "neighbours")?)
 }

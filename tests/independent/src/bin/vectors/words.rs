@@ -1,7 +1,7 @@
 //! The words of lists of moves, and lists at the boundaries of 1, a refused move and 10.
 
 use crate::{field, Folder};
-use independent::machine::{Config, CREATE, EXIT, GO, LOCK, TRYLOCK, UNLOCK, YIELD};
+use independent::machine::{Config, Move, CREATE, EXIT, GO, LOCK, TRYLOCK, UNLOCK, YIELD};
 use independent::random::{Driver, Rates};
 use independent::spelling::table;
 use independent::touch;
@@ -61,15 +61,19 @@ fn line(config: Config, moves: &[u8], length: usize) -> String {
         Ok(all) if length < 4 * all.len() => (10, 0),
         Ok(_) => (0, 0),
     };
-    let Config { processors, threads, mutexes, born, stealing } = config;
-    let table = format!("{processors} {threads} {mutexes} {born} {stealing}");
-    format!("{number} {place} {table} {length} {}\n", field(moves))
+    format!("{number} {place} {} {length} {}\n", five(config), field(moves))
 }
 
-/// Tables out of range, where the moves do not matter.
-fn bad_tables() -> String {
+/// The five numbers of a table.
+pub fn five(config: Config) -> String {
+    let Config { processors, threads, mutexes, born, stealing } = config;
+    format!("{processors} {threads} {mutexes} {born} {stealing}")
+}
+
+/// Tables out of range.
+pub fn bad_tables() -> [Config; 7] {
     let config = Config::new(2, 3, 1, 2);
-    let bad = [
+    [
         Config { processors: 0, ..config },
         Config { processors: 9, ..config },
         Config { threads: 33, ..config },
@@ -77,21 +81,32 @@ fn bad_tables() -> String {
         Config { born: 0, ..config },
         Config { born: 4, ..config },
         config.with_stealing(2),
-    ];
-    let line = |Config { processors, threads, mutexes, born, stealing }: Config| {
-        format!("1 0 {processors} {threads} {mutexes} {born} {stealing} 0 010100ff\n")
-    };
-    bad.map(line).concat()
+    ]
 }
 
+/// Moves that are refused after K7, then two that are accepted.
+pub const AFTER_K7: [Move; 12] = [
+    [0, GO, 0],
+    [4, GO, 0],
+    [1, 7, 0],
+    [1, GO, 1],
+    [3, LOCK, 2],
+    [2, YIELD, 0],
+    [3, GO, 0],
+    [1, UNLOCK, 1],
+    [1, CREATE, 2],
+    [3, EXIT, 0],
+    [2, GO, 0],
+    [1, TRYLOCK, 1],
+];
+
 fn boundaries() -> String {
-    let mut text = bad_tables();
-    let wrong = [[0, GO, 0], [4, GO, 0], [1, 7, 0], [1, GO, 1], [3, LOCK, 2], [2, YIELD, 0]];
-    let wrong = wrong.into_iter().chain([[3, GO, 0], [1, UNLOCK, 1], [1, CREATE, 2], [3, EXIT, 0]]);
+    // Where a table is out of range, the moves do not matter.
+    let mut text = bad_tables().map(|bad| format!("1 0 {} 0 010100ff\n", five(bad))).concat();
     for stealing in [0, 1] {
         let k7 = worked::k7().with_stealing(stealing);
         let moves = k7.moves.concat();
-        for made in wrong.clone().chain([[2, GO, 0], [1, TRYLOCK, 1]]) {
+        for made in AFTER_K7 {
             let longer = [&moves[..], &made].concat();
             let room = 4 * longer.len() / 3;
             for length in [0, room - 1, room, room + 1] {
