@@ -1,7 +1,7 @@
 //! Sessions to compare: lists of moves and the states on the way, from a seed.
 
 use crate::{expected, neighbours, replay, replay_with, words, Table};
-use independent::machine::{Move, State, EXIT};
+use independent::machine::{Move, State, EXIT, GO};
 use independent::owners;
 use independent::random::{Call, Driver, Generator, Rates};
 use independent::worked::{self, Worked};
@@ -175,10 +175,21 @@ pub fn any_list(generator: &mut Generator) -> List {
     (table, stealing, (0..length).map(|_| generator.between(0, 4)).collect())
 }
 
-/// Exits that owners are refused, each with the session before it.
-pub fn owner_exits() -> impl Iterator<Item = (Session, Move)> {
-    let all = owners::owning(0).into_iter().chain(owners::owning(1));
-    all.map(|owning| (Session::of(&owning.session), [owning.p, EXIT, 0]))
+/// Hands exits that owners are refused to `refused`, each with the session before it: one for each
+/// line that makes an owner, then those of random sessions.
+pub fn owner_exits(seeds: u64, mut refused: impl FnMut(&Session, Move)) {
+    for owning in owners::owning(0).into_iter().chain(owners::owning(1)) {
+        refused(&Session::of(&owning.session), [owning.p, EXIT, 0]);
+    }
+    let rates = Rates { refused: 0, undo: 0, owner_exits: 4 };
+    for seed in 0..seeds {
+        drive(seed, rates, 150, &mut refused);
+    }
+}
+
+/// Moves that are refused after 4,000, by 8 or before it by another number.
+pub fn after_most_moves([p, ..]: Table) -> [Move; 4] {
+    [[1, GO, 0], [p + 1, GO, 0], [1, 9, 0], [p, EXIT, 0]]
 }
 
 /// Some bytes that may follow a refused move.

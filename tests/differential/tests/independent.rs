@@ -2,12 +2,12 @@
 //! and what the library's replay and words give for the list with the two exchanged.
 
 use differential::sessions::{
-    any_list, compare_neighbours, drive, drive_with, every_move, owner_exits, tables_with, tail,
-    worked_lists, Session,
+    after_most_moves, any_list, compare_neighbours, drive, every_move, owner_exits, tables_with,
+    tail, worked_lists, Session,
 };
 use differential::{expected, neighbours, replay_with, words, Replayed, MOST_PICTURE, TOUCH};
 use independent::independence::{self, Bar};
-use independent::machine::{Move, EXIT, GO, MOST_MOVES};
+use independent::machine::{Move, MOST_MOVES};
 use independent::random::{Generator, Rates};
 use std::collections::{BTreeMap, BTreeSet};
 
@@ -184,8 +184,7 @@ fn long_sessions() {
                 same_exchanged(&session, first, true);
             }
         }
-        let p = table[0];
-        for made in [[1, GO, 0], [p + 1, GO, 0], [1, 9, 0], [p, EXIT, 0]] {
+        for made in after_most_moves(session.table) {
             refuses(&session, made, &[1, 0]);
         }
     }
@@ -193,13 +192,7 @@ fn long_sessions() {
 
 #[test]
 fn exits_by_owners() {
-    owner_exits().for_each(|(session, exit)| refuses(&session, exit, &[1]));
-    let rates = Rates { refused: 0, undo: 0, owner_exits: 4 };
-    for seed in 0..20 {
-        drive_with((seed % 2) as u8, seed, rates, 150, |session, made| {
-            refuses(session, made, &[]);
-        });
-    }
+    owner_exits(20, |session, exit| refuses(session, exit, &[]));
 }
 
 #[test]

@@ -264,10 +264,14 @@ fn words_of_moves() {
     assert!(moves_met > 7_000, "{moves_met}");
 }
 
-/// The numbers of a line, and the bytes behind them.
-fn boundary(line: &str) -> (Vec<u32>, Vec<u8>) {
+/// A list of moves at a boundary: the answer and the place, the table with its fifth number, another
+/// number, the moves.
+fn boundary(line: &str) -> ([u32; 2], Table, u8, u32, Vec<u8>) {
     let (numbers, moves) = line.rsplit_once(' ').unwrap();
-    (numbers.split(' ').map(|word| word.parse().unwrap()).collect(), unhex(moves))
+    let all: Vec<u32> = numbers.split(' ').map(|word| word.parse().unwrap()).collect();
+    let &[answer, place, p, t, m, b, stealing, other] = &all[..] else { panic!("{line}") };
+    let table = [p, t, m, b].map(|size| size as u8);
+    ([answer, place], table, stealing as u8, other, unhex(moves))
 }
 
 #[test]
@@ -275,11 +279,9 @@ fn boundaries_of_words() {
     let mut met = BTreeMap::new();
     for path in files("words", ".list") {
         for line in text(&path).lines() {
-            let (all, moves) = boundary(line);
-            let &[number, place, p, t, m, b, stealing, length] = &all[..] else { panic!("{line}") };
-            let table = [p, t, m, b].map(|size| size as u8);
+            let ([number, place], table, stealing, length, moves) = boundary(line);
             let mut buffer = vec![0xa5; length as usize];
-            let got = words(table, stealing as u8, &moves, &mut buffer);
+            let got = words(table, stealing, &moves, &mut buffer);
             assert_eq!(got, Replayed { number: number as u8, place }, "{line}");
             if number != 0 {
                 assert!(buffer.iter().all(|&byte| byte == 0xa5), "{line}");
@@ -313,10 +315,8 @@ fn boundaries_of_neighbours() {
     let mut met = BTreeMap::new();
     for path in files("neighbours", ".list") {
         for line in text(&path).lines() {
-            let (all, moves) = boundary(line);
-            let &[answer, place, p, t, m, b, stealing, first] = &all[..] else { panic!("{line}") };
-            let table = [p, t, m, b].map(|size| size as u8);
-            let got = neighbours(table, stealing as u8, &moves, first);
+            let ([answer, place], table, stealing, first, moves) = boundary(line);
+            let got = neighbours(table, stealing, &moves, first);
             assert_eq!(got, (answer as u8, place), "{line}");
             *met.entry(answer).or_insert(0) += 1;
         }

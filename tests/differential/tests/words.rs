@@ -1,11 +1,11 @@
 //! The words of moves through the static library against the independent machine, byte for byte.
 
 use differential::sessions::{
-    any_list, compare_words, drive, drive_with, every_move, owner_exits, patterned, tables_with,
-    tail, worked_lists, Session,
+    after_most_moves, any_list, compare_words, drive, every_move, owner_exits, patterned,
+    tables_with, tail, worked_lists, Session,
 };
 use differential::{words, Replayed, TOUCH};
-use independent::machine::{Move, EXIT, GO, MOST_MOVES};
+use independent::machine::{Move, MOST_MOVES};
 use independent::random::{Generator, Rates};
 use independent::touch::Touch;
 use std::collections::{BTreeMap, BTreeSet};
@@ -129,8 +129,7 @@ fn long_sessions() {
     for seed in 1_000..1_020 {
         let session = drive(seed, Rates::ACCEPTED, usize::from(MOST_MOVES), |_, _| ());
         gives(&session, &touches(&session), usize::from(MOST_MOVES));
-        let p = session.table[0];
-        for made in [[1, GO, 0], [p + 1, GO, 0], [1, 9, 0], [p, EXIT, 0]] {
+        for made in after_most_moves(session.table) {
             refuses(&session, made, &[1, 0]);
         }
         let room = TOUCH * usize::from(MOST_MOVES);
@@ -140,16 +139,9 @@ fn long_sessions() {
     }
 }
 
-/// Owners that try to exit.
 #[test]
 fn exits_by_owners() {
-    owner_exits().for_each(|(session, exit)| refuses(&session, exit, &[]));
-    let rates = Rates { refused: 0, undo: 0, owner_exits: 4 };
-    for seed in 0..40 {
-        drive_with((seed % 2) as u8, seed, rates, 150, |session, made| {
-            refuses(session, made, &[]);
-        });
-    }
+    owner_exits(40, |session, exit| refuses(session, exit, &[]));
 }
 
 /// Moves that nobody checks beforehand.

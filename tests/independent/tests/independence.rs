@@ -76,14 +76,15 @@ fn sessions(seeds: u64, count: usize) -> Vec<Worked> {
 /// Neighbours by what bars them and what they lead to exchanged, each with how often.
 type Met = BTreeMap<(Option<Bar>, End), usize>;
 
-/// Neighbours of different processors with each bar led elsewhere more than so often.
+/// More than so many neighbours of different processors led elsewhere by each bar, and ten times as
+/// many may change places.
 fn check_met(met: &Met, least: usize) {
     println!("{met:?}");
     let count = |bar, end| met.get(&(bar, end)).copied().unwrap_or(0);
     assert!(count(None, Same) > 10 * least);
     for bar in [Bar::BothWrite, Bar::FirstWrites, Bar::SecondWrites] {
         assert!(count(Some(bar), Other) > least, "{bar:?}");
-        // What bars them keeps the state from being the same, but neither from being accepted.
+        // Whatever bars them, both are accepted either way round.
         assert_eq!(count(Some(bar), Refused), 0, "{bar:?}");
     }
 }
@@ -161,8 +162,8 @@ fn accepted(state: &State) -> Vec<Move> {
     moves.filter(|&made| state.cause(made).is_none()).collect()
 }
 
-/// The states that sessions reach, about so many, by their number of moves; they differ in more than
-/// that number.
+/// About so many states that sessions reach, those by fewer moves first; they differ in more than
+/// the number of moves.
 fn reached(config: Config, most: usize) -> Vec<State> {
     let shown = |state: &State| picture::raw_bytes(&Snapshot { applied: 0, ..Snapshot::of(state) });
     let mut all = vec![State::start(config)];
@@ -196,7 +197,7 @@ fn pairs_from(before: &State, met: &mut Met, lines: &mut BTreeSet<[Position; 2]>
     }
 }
 
-/// From every state of short sessions.
+/// Every two moves from every state of short sessions.
 #[test]
 fn every_two_moves() {
     let (mut met, mut lines) = (Met::new(), BTreeSet::new());
@@ -211,7 +212,7 @@ fn every_two_moves() {
     assert!(lines.len() > 400, "{}", lines.len());
 }
 
-/// From states on the way of longer ones.
+/// The same from states on the way of longer ones.
 #[test]
 fn every_two_moves_later() {
     let (mut met, mut lines) = (Met::new(), BTreeSet::new());
