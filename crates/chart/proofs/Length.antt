@@ -1,15 +1,15 @@
 -- No chart is longer than 680,103 bytes.
 -- Assumes nothing.
-use Prim.Native.Nat.{ℕ, zero, suc, _+_, _-_, _*_, _/_, _%_, _≤_}
+use Prim.Native.Nat.{ℕ, zero, suc, _+_, _-_, _*_, _≤_}
 use native.Mathlib.Omega.{arith}
 use mathlib.Core.Bool.{Bool, true, false, cond}
 use mathlib.Core.List.{List, [], _∷_, _++_}
 use mathlib.Core.Path.{_≡_, refl}
-use lib.Dec.{eqb, ltb}
+use lib.Dec.{eqb}
 use lib.ListN.{length, take, drop, length-append, length-take}
 use Rattle.command.specs.Command.{field}
 use Rattle.command.specs.Printing.{text, decimal, wide, padded, line-feed}
-use Rattle.command.proofs.Lines.{decimal-length}
+use Rattle.command.proofs.Lines.{decimal-length, wide-length, field-length}
 use Rattle.command.proofs.Put.{spaces-length}
 use Rattle.view.specs.Words.{trimmed, word-at, line-name, action-word, or-dash, token-text, rows}
 use Rattle.state.specs.declared.Thread.{Thread}
@@ -25,7 +25,7 @@ use Rattle.reference.proofs.Tests.{range-true}
 use Rattle.shown.proofs.Kept.{Fields, state-kept, fields-say}
 use Rattle.session.specs.Contract.{test-refusal}
 use Rattle.session.proofs.Answers.{lent-passed, test-passed}
-use Rattle.session.proofs.Undone.{state-right}
+use Rattle.session.proofs.Found.{state-right}
 use Rattle.session.proofs.Replayed.{length-moves}
 use Rattle.chart.specs.Chart.{deed, made, noted, owner-change, token-change, queue-name, queue-change, with-owner, with-token, with-joined, with-departed, row, column-head, heading, moves-chart, chart-text}
 
@@ -59,18 +59,6 @@ line-length n = word-length 3 n _
 
 action-length : (n : ℕ) → length (action-word n) ≤ 7
 action-length n = word-length 7 n _
-
-wide-length : (n : ℕ) → length (wide n) ≤ 6
-unfolding wide
-wide-length n = go (ltb n 1000)
-  where
-    go : (t : Bool) → length (cond t (decimal n) (decimal (n / 1000) ++ ((48 + n / 100 % 10) ∷ (48 + n / 10 % 10) ∷ (48 + n % 10) ∷ []))) ≤ 6
-    go true = omega (arith, decimal-length n)
-    go false = rw length-append (omega (arith, decimal-length (n / 1000)))
-
-field-length : (n : ℕ) → length (field n) ≤ 4
-unfolding field
-field-length n = omega (arith, decimal-length n)
 
 dash-length : (n : ℕ) → length (or-dash n) ≤ 3
 unfolding text

@@ -1,10 +1,10 @@
 -- The contracts with one case altered, from which the wrong implementations are made, and what these are tried on.
 -- Assumes nothing.
-use Prim.Native.Nat.{ℕ}
+use Prim.Native.Nat.{ℕ, suc}
 use mathlib.Core.List.{List, [], _∷_}
 use mathlib.Core.Path.{_≡_, refl, ap}
 use lib.Dec.{eqb}
-use lib.ListN.{getD, replicate}
+use lib.ListN.{length, getD, replicate}
 use Rattle.state.specs.declared.State.{State as Record}
 use Rattle.state.specs.declared.Session.{Session}
 use Rattle.state.specs.Record.{chain}
@@ -19,10 +19,10 @@ use Rattle.reference.specs.Break.{step-breaks}
 use Rattle.reference.specs.Touch.{touch, line-touch, act-touch}
 use Rattle.reference.specs.Picture.{thread-entry, behind, picture, concat}
 use Rattle.reference.specs.Script.{script-ok, scripts-ok, scripts-cause, progress, turn-move, class-moves, class-answers, class-pictures}
-use Rattle.reference.specs.Session.{Opening, table, Request, move, turn, class, back, own, other, Call, Reply, bytes, moves, all-but-last, replays, left, replies}
+use Rattle.reference.specs.Session.{Opening, table, Request, move, turn, class, goto, own, other, Call, Reply, bytes, moves, replays, left, replies}
 use Rattle.picture.specs.Picture.{written}
 use Rattle.picture.specs.Turns.{Answer as TurnsAhead, before, turns-ahead, ahead, answer}
-use Rattle.session.specs.Contract.{shown, config-of, move-answered, or-later, started, lent-refusal, standing, matches, test-refusal, move-refusal, moved, written-at, journal-after, undo-refusal, undone}
+use Rattle.session.specs.Contract.{shown, config-of, move-answered, or-later, started, lent-refusal, standing, matches, test-refusal, move-refusal, moved, written-at, journal-after, goto-refusal, went}
 use Rattle.turns.specs.Contract.{turn-made, turn-refusal, turned, turn-journal, class-refusal, classed, class-journal, answers-after, pictures-after}
 use Rattle.claim.specs.Implementation.{Outcome, Pictured, Implementation, move-outcome, calls, contract}
 use Rattle.claim.specs.Demand3.{Event, asked, held-after, responses, IsSession}
@@ -43,11 +43,11 @@ abbrev pub with-ahead : (Record → ℕ → TurnsAhead) → Implementation
 with-ahead f =
     record { begin = contract .begin; call = contract .call; write = contract .write; read = contract .read; front = contract .front; ahead = f }
 
-abbrev cases : (Move → Outcome) → (List ℕ → ℕ → Outcome) → (List ℕ → List ℕ → List ℕ → List ℕ → Outcome) → Outcome → Request → Outcome
-cases m t c u (move a) = m a
-cases m t c u (turn x p) = t x p
-cases m t c u (class x ps a b) = c x ps a b
-cases m t c u back = u
+abbrev cases : (Move → Outcome) → (List ℕ → ℕ → Outcome) → (List ℕ → List ℕ → List ℕ → List ℕ → Outcome) → (ℕ → Outcome) → Request → Outcome
+cases m t c g (move a) = m a
+cases m t c g (turn x p) = t x p
+cases m t c g (class x ps a b) = c x ps a b
+cases m t c g (goto k) = g k
 
 module _ (r : Session) (j : List ℕ) where
   abbrev right-move : Move → Outcome
@@ -59,17 +59,20 @@ module _ (r : Session) (j : List ℕ) where
   abbrev right-class : List ℕ → List ℕ → List ℕ → List ℕ → Outcome
   right-class x ps a b = calls r j (class x ps a b)
 
+  abbrev right-goto : ℕ → Outcome
+  right-goto k = calls r j (goto k)
+
 abbrev pub with-move : (Session → List ℕ → Move → Outcome) → Implementation
-with-move f = with-calls (λ r j. cases (f r j) (right-turn r j) (right-class r j) (calls r j back))
+with-move f = with-calls (λ r j. cases (f r j) (right-turn r j) (right-class r j) (right-goto r j))
 
 abbrev pub with-turn : (Session → List ℕ → List ℕ → ℕ → Outcome) → Implementation
-with-turn f = with-calls (λ r j. cases (right-move r j) (f r j) (right-class r j) (calls r j back))
+with-turn f = with-calls (λ r j. cases (right-move r j) (f r j) (right-class r j) (right-goto r j))
 
 abbrev pub with-class : (Session → List ℕ → List ℕ → List ℕ → List ℕ → List ℕ → Outcome) → Implementation
-with-class f = with-calls (λ r j. cases (right-move r j) (right-turn r j) (f r j) (calls r j back))
+with-class f = with-calls (λ r j. cases (right-move r j) (right-turn r j) (f r j) (right-goto r j))
 
-abbrev pub with-undo : (Session → List ℕ → Outcome) → Implementation
-with-undo f = with-calls (λ r j. cases (right-move r j) (right-turn r j) (right-class r j) (f r j))
+abbrev pub with-goto : (Session → List ℕ → ℕ → Outcome) → Implementation
+with-goto f = with-calls (λ r j. cases (right-move r j) (right-turn r j) (right-class r j) (f r j))
 
 -- ---- parts of a call
 
@@ -86,7 +89,7 @@ abbrev pub only-jumps : Line → Session → Move → Session
 only-jumps l r a =
     let p : ℕ = a .processor in
     let m : ℕ = processor-at (shown r) p .mutex in
-    session-record (put-back (shown r) p m 0 0 (jump l (view (shown r) p m))) (r .initial)
+    session-record (put-back (shown r) p m 0 0 (jump l (view (shown r) p m))) (r .initial) (suc (shown r .applied))
 
 -- a turn that makes the move `a`, where `n` is what is tried before its causes
 abbrev pub turn-by : Session → List ℕ → ℕ → Move → Outcome
@@ -131,7 +134,7 @@ alone = table one
 
 -- the record after moves from a start
 abbrev pub after-start : Config → List Move → Session
-after-start c ms = session-record (run (start c) ms) (c .B)
+after-start c ms = session-record (run (start c) ms) (c .B) (length ms)
 
 abbrev pub lock-move : Move
 lock-move = move-of 1 1 1
@@ -161,5 +164,5 @@ byte i k e = ap (byte-of i k) e
 
 -- what the refutations compute with: to unfold this is to unfold all that its line names
 unfoldable pub computing : Unit {0}
-unfolding before turns-ahead ahead answer long unrelated responses asked held-after left replies IsSession config-cause started start tabulate those encode decode chain run next act line line-touch act-touch line-of cause action-of lent-refusal matches test-refusal after-moves replays all-but-last move-refusal moved journal-after undo-refusal undone step-breaks written-at bytes session-ok state-ok broken-rule fields-ok processor-ok mutex-ok thread-ok chains-ok chain-ok holders-ok zero-past each every no-twice find sum is thread-entry behind accepted moves same-state same-list script-ok scripts-ok progress turn-move turn-refusal turned turn-journal class-moves class-answers class-pictures class-refusal classed class-journal answers-after pictures-after written picture concat
+unfolding before turns-ahead ahead answer long unrelated responses asked held-after left replies IsSession config-cause started start tabulate those encode decode chain run next act line line-touch act-touch line-of cause action-of lent-refusal matches test-refusal after-moves replays move-refusal moved journal-after goto-refusal went step-breaks written-at bytes session-ok state-ok broken-rule fields-ok processor-ok mutex-ok thread-ok chains-ok chain-ok holders-ok zero-past each every no-twice find sum is thread-entry behind accepted moves same-state same-list script-ok scripts-ok progress turn-move turn-refusal turned turn-journal class-moves class-answers class-pictures class-refusal classed class-journal answers-after pictures-after written picture concat
 computing = tt

@@ -3,27 +3,31 @@
 use Prim.Native.Nat.{ℕ, _*_, _≤_}
 use mathlib.Core.Bool.{Bool, true, false, not}
 use mathlib.Core.List.{List, [], _∷_, _++_}
-use mathlib.Core.Path.{_≡_, refl, sym, ap, _∙_}
+use mathlib.Core.Path.{_≡_, refl, sym, ap, _∙_, subst}
 use native.Mathlib.Nat.{le-refl}
 use native.Mathlib.Omega.{arith}
 use lib.Dec.{eqb}
 use lib.ListN.{length, drop, length-append, take-append-drop}
-use borrow.Author.Tests.{eq-eqb, not-false}
+use borrow.Author.Tests.{eq-eqb, ne-eqb, eqb-true, not-false}
 use Rattle.state.specs.declared.Session.{Session}
+use Rattle.state.specs.Association.{session-record}
 use Rattle.reference.specs.Refusal.{refuse}
 use Rattle.reference.specs.Lists.{choose}
-use Rattle.reference.specs.Start.{Config, config-cause}
-use Rattle.reference.specs.Step.{Move}
-use Rattle.reference.specs.Script.{scripts-ok, scripts-cause, turned, turn-cause, turn-after, class-moves}
+use Rattle.reference.specs.Start.{Config, config-cause, start}
+use Rattle.reference.specs.Step.{Move, run}
+use Rattle.reference.specs.Safe.{Safe}
+use Rattle.reference.specs.Script.{scripts-ok, scripts-cause, turned, turn-cause, class-moves}
 use Rattle.reference.specs.Touch.{nothing, touch}
-use Rattle.reference.specs.Session.{Opening, opened, Request, class, turn, own, Reply, bytes, short, lacks-room, answer-to, fills, left}
+use Rattle.reference.specs.Session.{Opening, opened, Request, class, turn, own, Reply, bytes, Listed, standing, all-standing, joined, grown, short, lacks-room, answer-to, fills, left}
 use Rattle.reference.proofs.Tests.{passed}
+use Rattle.reference.proofs.Sums.{choose-by}
 use Rattle.reference.proofs.Laws.{safe}
-use Rattle.session.proofs.Holding.{Holds}
+use Rattle.session.proofs.Holding.{Holds, take-all, standing-legal, standing-long}
 use Rattle.turns.specs.Contract as contracts
 use Rattle.claim.specs.Implementation.{contract, calls}
 use Rattle.claim.specs.Demand3.{Event, asks, asked, Held, held-after, step, reply, IsSession, opening, held-at-end}
 use Rattle.claim.specs.Class.{TurnMoves, turns, done, ClassIs, Classes}
+use Rattle.claim.proofs.Grown.{class-grows, class-same}
 use Rattle.claim.proofs.Numbers.{reply-is}
 use Rattle.claim.proofs.Leaves.{turn-passed, turn-session, turn-writes}
 use Rattle.claim.proofs.Demand3.{Stands, Reached, step-own, first-right, reached}
@@ -47,31 +51,66 @@ turn-moves r j x p e =
 
 -- ---- turn after turn
 
--- a class drops no move
-grows : (c : Config) (x : List ℕ) (ps : List ℕ) (ms : List Move) → length ms ≤ length (class-moves c x ms ps)
-unfolding class-moves
-grows c x [] ms = le-refl (length ms)
-grows c x (p ∷ ps) ms = omega (arith, grows c x ps (turn-after c x ms p), by (eqb (turn-cause c x ms p) 0))
-  where
-    by : (b : Bool) → length ms ≤ length (choose b (ms ++ turned c x ms p ∷ []) ms)
-    by true = omega (arith, length-append ms (turned c x ms p ∷ []))
-    by false = le-refl (length ms)
+module _ (c : Config) (x : List ℕ) where
+  -- what is held after a turn, and after turn after turn
+  abbrev turn-held : Bool → Listed → ℕ → Listed
+  turn-held b l p = choose b (joined l (turned c x (standing l) p)) l
+
+  abbrev turn-takes : Listed → ℕ → Bool
+  turn-takes l p = eqb (turn-cause c x (standing l) p) 0
+
+  unfoldable turns-held : Listed → List ℕ → Listed
+  turns-held l [] = l
+  turns-held l (p ∷ ps) = turns-held (turn-held (turn-takes l p) l p) ps
+
+  -- where all stand, they are those that the class gives
+  all-held : (ps : List ℕ) (ms : List Move) → turns-held (all-standing ms) ps ≡ all-standing (class-moves c x ms ps)
+  unfolding turns-held class-moves
+  all-held [] ms = refl
+  all-held (p ∷ ps) ms =
+      ap (λ (ns : List Move). turns-held (choose (eqb (turn-cause c x ns p) 0) (all-standing (ns ++ turned c x ns p ∷ [])) (all-standing ms)) ps) (take-all ms) ∙
+      by (eqb (turn-cause c x ms p) 0) (all-held ps)
+    where
+      by : (b : Bool) → ((ns : List Move) → turns-held (all-standing ns) ps ≡ all-standing (class-moves c x ns ps)) →
+          turns-held (choose b (all-standing (ms ++ turned c x ms p ∷ [])) (all-standing ms)) ps ≡ all-standing (class-moves c x (choose b (ms ++ turned c x ms p ∷ []) ms) ps)
+      by true on = on (ms ++ turned c x ms p ∷ [])
+      by false on = on ms
+
+  -- what a class gives of any list: as long as no turn is accepted nothing changes
+  grown-held : (ps : List ℕ) (l : Listed) → length (standing l) ≡ l .n → turns-held l ps ≡ grown l (class-moves c x (standing l) ps)
+  unfolding turns-held class-moves
+  grown-held [] l e = sym (rw (eq-eqb (length (standing l)) (l .n) e))
+  grown-held (p ∷ ps) l e = by (turn-takes l p) (grown-held ps l e)
+    where
+      ns : List Move
+      ns = standing l ++ turned c x (standing l) p ∷ []
+
+      by : (b : Bool) → turns-held l ps ≡ grown l (class-moves c x (standing l) ps) →
+          turns-held (turn-held b l p) ps ≡ grown l (class-moves c x (choose b ns (standing l)) ps)
+      by true on =
+          all-held ps ns ∙
+          sym (rw (ne-eqb (length (class-moves c x ns ps)) (l .n) (λ z. absurd (omega (arith, class-grows c x ps ns, length-append (standing l) (turned c x (standing l) p ∷ []))))))
+      by false on = on
 
 module _ (c : Config) (ok : config-cause c ≡ 0) (first : List ℕ) (k : ℕ) (x : List ℕ) (long : short (length first) ≡ false) (right : scripts-ok (c .T) x ≡ true) where
-  turns-stand : (ps : List ℕ) (l : List Move) (h : Held) → Stands c ok first k l (h .session) (h .journal) → length (class-moves c x l ps) ≤ k →
-      Stands c ok first k (class-moves c x l ps) (held-after contract h (turns x ps) .session) (held-after contract h (turns x ps) .journal)
-  unfolding class-moves held-after turns
+  turns-stand : (ps : List ℕ) (l : Listed) (h : Held) → Stands c ok first k l (h .session) (h .journal) → length (turns-held c x l ps .kept) ≤ k →
+      Stands c ok first k (turns-held c x l ps) (held-after contract h (turns x ps) .session) (held-after contract h (turns x ps) .journal)
+  unfolding turns-held held-after turns
   turns-stand [] l h s top = s
   turns-stand (p ∷ ps) l h s top =
-      let number : answer-to c (length first) l (turn x p) own ≡ turn-cause c x l p = rw (long, right) in
-      let small : length (turn-after c x l p) ≤ k = omega (arith, grows c x ps (turn-after c x l p)) in
-      turns-stand ps (turn-after c x l p) (step contract h (asks (record { request = turn x p; lent = own })))
-      (step-own c ok first k l (h .session) (h .journal) s (turn x p) (eqb (turn-cause c x l p) 0) (ap (λ (n : ℕ). eqb n 0) number) small) top
+      let number : answer-to c (length first) l (turn x p) own ≡ turn-cause c x (standing l) p = rw (long, right) in
+      let ns : List Move = standing l ++ turned c x (standing l) p ∷ [] in
+      let small : turn-takes c x l p ≡ true → length ns ≤ k =
+      λ z.
+      let made : length (turns-held c x (all-standing ns) ps .kept) ≤ k = subst (λ (b : Bool). length (turns-held c x (turn-held c x b l p) ps .kept) ≤ k) z top in
+      omega (arith, ap (λ (m : Listed). length (m .kept)) (all-held c x ps ns), class-grows c x ps ns) in
+      turns-stand ps (turn-held c x (turn-takes c x l p) l p) (step contract h (asks (record { request = turn x p; lent = own })))
+      (step-own c ok first k l (h .session) (h .journal) s (turn x p) (turn-takes c x l p) (ap (λ (n : ℕ). eqb n 0) number) small) top
 
--- where no more moves ever stood than stand now, the journal is its moves and what came after them at first
-module _ (c : Config) (ok : config-cause c ≡ 0) (first : List ℕ) (l : List Move) (r : Session) (j : List ℕ) (s : Stands c ok first (length l) l r j) where
-  journal-is : j ≡ bytes l ++ drop (3 * length l) first
-  journal-is = sym (take-append-drop (3 * length l) j) ∙ (λ i. s .holds .whole i ++ s .rest i)
+-- where no more moves were ever kept than are kept now, the journal is these and what came after them at first
+module _ (c : Config) (ok : config-cause c ≡ 0) (first : List ℕ) (l : Listed) (r : Session) (j : List ℕ) (s : Stands c ok first (length (l .kept)) l r j) where
+  journal-is : j ≡ bytes (l .kept) ++ drop (3 * length (l .kept)) first
+  journal-is = sym (take-append-drop (3 * length (l .kept)) j) ∙ (λ i. s .holds .whole i ++ s .rest i)
 
 -- ---- classes
 
@@ -86,14 +125,21 @@ module _ (o : Opening) (j : List ℕ) (e : contract .begin o j .refusal ≡ 0) (
   abbrev h : Held
   h = held-at-end contract o j es
 
-  abbrev l : List Move
-  l = left c (length j) (opened o .listed) (asked es)
+  abbrev l : Listed
+  l = left c (length j) (all-standing (opened o .listed)) (asked es)
 
   abbrev q : Request
   q = class x ps answers pictures
 
   abbrev made : List Move
-  made = class-moves c x l ps
+  made = class-moves c x (standing l) ps
+
+  -- what is held then, and how much of it
+  abbrev end : Listed
+  end = grown l made
+
+  abbrev k : ℕ
+  k = length (end .kept)
 
   holds : Holds c l (h .session) (h .journal)
   unfolding Reached
@@ -116,27 +162,39 @@ module _ (o : Opening) (j : List ℕ) (e : contract .begin o j .refusal ≡ 0) (
       not-false (scripts-ok (c .T) x) (passed (not (scripts-ok (c .T) x)) 18 0 none .0)
 
   -- both ways start here
-  stands : Stands c ok (h .journal) (length made) l (h .session) (h .journal)
+  stands : Stands c ok (h .journal) k l (h .session) (h .journal)
   stands = record { holds = holds; rest = refl; long = refl }
 
-  after : Stands c ok (h .journal) (length made) made (calls (h .session) (h .journal) q .session) (calls (h .session) (h .journal) q .journal)
-  after = step-own c ok (h .journal) (length made) l (h .session) (h .journal) stands q true (eq-eqb _ 0 free) (le-refl (length made))
+  after : Stands c ok (h .journal) k end (calls (h .session) (h .journal) q .session) (calls (h .session) (h .journal) q .journal)
+  after = step-own c ok (h .journal) k l (h .session) (h .journal) stands q true (eq-eqb _ 0 free) (λ z. le-refl k)
 
-  one-by-one : Stands c ok (h .journal) (length made) made (held-after contract h (turns x ps) .session) (held-after contract h (turns x ps) .journal)
-  one-by-one = turns-stand c ok (h .journal) (length made) x long scripted ps l h stands (le-refl (length made))
+  same : turns-held c x l ps ≡ end
+  same = grown-held c x ps l (standing-long c ok l (h .session) (h .journal) holds)
+
+  one-by-one : Stands c ok (h .journal) k end (held-after contract h (turns x ps) .session) (held-after contract h (turns x ps) .journal)
+  one-by-one =
+      subst (λ (m : Listed). Stands c ok (h .journal) k m (held-after contract h (turns x ps) .session) (held-after contract h (turns x ps) .journal)) same
+      (turns-stand c ok (h .journal) k x long scripted ps l h stands (omega (arith, ap (λ (m : Listed). length (m .kept)) same)))
+
+  -- the moves that stand then are those made
+  end-stands : standing end ≡ made
+  end-stands =
+      choose-by (λ (m : Listed). standing m ≡ made) (eqb (length made) (l .n))
+      (λ z. sym (class-same c x ps (standing l) (eqb-true (length made) (l .n) z ∙ sym (standing-long c ok l (h .session) (h .journal) holds))))
+      (λ z. take-all made)
 
   class-is : ClassIs contract o j es x ps answers pictures
   class-is =
       record {
-        state = after .holds .shows;
+        state = after .holds .shows ∙ ap (λ (ms : List Move). session-record (run (start c) ms) (c .B) k) end-stands;
         buffers = ap (λ (y : Reply). y .buffers) said ∙ rw free;
         turn-by-turn =
             λ i.
             record {
               session = (after .holds .shows ∙ sym (one-by-one .holds .shows)) i;
-              journal = (journal-is c ok (h .journal) made _ _ after ∙ sym (journal-is c ok (h .journal) made _ _ one-by-one)) i;
+              journal = (journal-is c ok (h .journal) end _ _ after ∙ sym (journal-is c ok (h .journal) end _ _ one-by-one)) i;
             };
-        safe = safe c made ok (after .holds .legal);
+        safe = subst (Safe c) end-stands (safe c (standing end) ok (standing-legal c ok end _ _ (after .holds)));
       }
 
 pub classes : Classes contract

@@ -23,6 +23,7 @@ use Rattle.reference.specs.Break.{step-breaks}
 use Rattle.reference.specs.Safe.{In}
 use Rattle.reference.specs.Session.{short}
 use Rattle.reference.specs.Picture.{picture}
+use Rattle.reference.proofs.Legal.{legal}
 use Rattle.shown.proofs.Decode.{decode-encode, encode-ok}
 use Rattle.shown.proofs.Unique.{encode-sized, one-to-one, session-held, session-record-ok}
 use Rattle.agreement.proofs.Moved.{not-refused}
@@ -79,6 +80,15 @@ module _ (r : Session) (j : List ℕ) (a : Move) where
         let free = not-refused (shown r) a (first .1) in
         (next-allowed (shown r) a (free .0) (free .1) (h .allowed), h .initial)
 
+  -- it stands, and there was room for it
+  below : move-refusal r j a ≡ 0 → next (shown r) a .applied ≤ suc (shown r .applied)
+  unfolding next
+  below e = omega arith
+
+  room : move-refusal r j a ≡ 0 → suc (shown r .applied) ≤ 4000
+  unfolding move-refusal
+  room e = omega (arith, legal (shown r) a (or-passed (cause (shown r) a) _ (or-passed (test-refusal r j) _ e .1) .0) .room)
+
   move-is : MoveIs contract r j a
   unfolding moved journal-after
   move-is =
@@ -88,7 +98,7 @@ module _ (r : Session) (j : List ℕ) (a : Move) where
         journal = λ e. rw (eq-eqb (move-refusal r j a) 0 e);
         valid = λ z e.
             let n = allowed-next z e in
-            rw (eq-eqb (move-refusal r j a) 0 e) (encode-sized (next (shown r) a), session-record-ok (next (shown r) a) (r .initial) (n .0) (n .1));
+            rw (eq-eqb (move-refusal r j a) 0 e) (encode-sized (next (shown r) a), session-record-ok (next (shown r) a) (r .initial) (suc (shown r .applied)) (n .0) (n .1) (below e) (room e));
         next-shown = λ z e. rw (eq-eqb (move-refusal r j a) 0 e) (decode-encode (next (shown r) a) (allowed-next z e .0));
       }
 

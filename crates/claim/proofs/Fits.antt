@@ -5,8 +5,7 @@ use mathlib.Core.List.{List, [], _∷_, _++_}
 use mathlib.Core.Path.{_≡_, refl, sym, ap, _∙_, subst}
 use lib.ListN.{length}
 use Rattle.reference.specs.Start.{Config}
-use Rattle.reference.specs.Step.{Move}
-use Rattle.reference.specs.Session.{Opening, opened, Request, Lent, own, other, Reply, answer, after, left}
+use Rattle.reference.specs.Session.{Opening, opened, Request, Lent, own, other, Reply, Listed, all-standing, answer, after, left}
 use Rattle.picture.specs.Picture.{write-refusal}
 use Rattle.claim.specs.Implementation.{contract, Refused}
 use Rattle.claim.specs.Demand3.{Event, asks, writes, passes, asked, Held, step, held-after, Belongs, BelongsLent, IsSession, opening, listed}
@@ -17,7 +16,7 @@ FitsLent own n = Unit {0}
 FitsLent (other o) n = Refused n
 
 -- each call that is lent another journal is refused there, and so is each picture over the session's own
-unfoldable pub Fits : Config → ℕ → List Move → List Event → Type 0
+unfoldable pub Fits : Config → ℕ → Listed → List Event → Type 0
 Fits c size l [] = Unit {0}
 Fits c size l (asks q ∷ es) = FitsLent (q .lent) (answer c size l q .refusal) × Fits c size (after c size l q) es
 Fits c size l (writes s ∷ es) = Refused (write-refusal s size) × Fits c size l es
@@ -35,7 +34,7 @@ unfolding held-after IsSession
 session-then h [] e s b = (b, tt)
 session-then h (d ∷ es) e s b = (s .0, session-then (step contract h d) es e (s .1) b)
 
-left-then : (c : Config) (size : ℕ) (l : List Move) (es : List Event) (e : Event) →
+left-then : (c : Config) (size : ℕ) (l : Listed) (es : List Event) (e : Event) →
     left c size l (asked (es ++ e ∷ [])) ≡ left c size (left c size l (asked es)) (asked (e ∷ []))
 unfolding left asked
 left-then c size l [] e = refl
@@ -47,8 +46,8 @@ module _ (o : Opening) (j : List ℕ) (ok : contract .begin o j .refusal ≡ 0) 
   abbrev first : Held
   first = opening contract o j
 
-  -- what fits the list that the reference session holds
-  abbrev FitsAt : List Event → List Move → Type 0
+  -- what fits what the reference session holds
+  abbrev FitsAt : List Event → Listed → Type 0
   FitsAt es l = Fits (opened o .config) (length j) l es
 
   -- after a session, a call is answered as in the reference session: where it is refused there, it is refused
@@ -68,7 +67,7 @@ module _ (o : Opening) (j : List ℕ) (ok : contract .begin o j .refusal ≡ 0) 
   fits-then e rest es s b f on = (
     b,
     subst (λ (h : Held). IsSession contract h rest) (held-then first es e)
-        (on (session-then first es e s b) (subst (FitsAt rest) (sym (left-then (opened o .config) (length j) (opened o .listed) es e)) f)),
+        (on (session-then first es e s b) (subst (FitsAt rest) (sym (left-then (opened o .config) (length j) (all-standing (opened o .listed)) es e)) f)),
   )
 
   fits-on : (rest es : List Event) → IsSession contract first es → FitsAt rest (listed contract o j es) → IsSession contract (held-after contract first es) rest
@@ -80,6 +79,6 @@ module _ (o : Opening) (j : List ℕ) (ok : contract .begin o j .refusal ≡ 0) 
       fits-then (writes r) rest es s (λ e. f .0 (ap (write-refusal r) (sym (demand3 .sessions o j ok es s .size)) ∙ e)) (f .1) (fits-on rest (es ++ writes r ∷ []))
   fits-on (passes ∷ rest) es s f = fits-then passes rest es s tt f (fits-on rest (es ++ passes ∷ []))
 
-  pub is-session : (es : List Event) → FitsAt es (opened o .listed) → IsSession contract first es
+  pub is-session : (es : List Event) → FitsAt es (all-standing (opened o .listed)) → IsSession contract first es
   unfolding held-after IsSession left asked
   is-session es f = fits-on es [] tt f

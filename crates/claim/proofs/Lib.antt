@@ -1,5 +1,6 @@
 -- Demands 2 and 3, what accepted calls leave whoever wrote record and journal, that a class is the moves that it makes, and that the demands refuse what is wrong.
 pub mod Numbers
+pub mod Grown
 pub mod Leaves
 pub mod Sound
 pub mod Refusals
@@ -16,4 +17,5 @@ pub mod WrongQueues
 pub mod WrongJournals
 pub mod WrongExits
 pub mod WrongWords
+pub mod WrongGoings
 pub mod Worked

@@ -10,9 +10,9 @@ use borrow.Author.Tests.{ne-eqb}
 use Rattle.state.specs.declared.Session.{Session}
 use Rattle.state.specs.Record.{zero-session}
 use Rattle.reference.specs.Lists.{if-zero}
-use Rattle.reference.specs.Session.{Opening, table, scripted, Request, move, turn, class, back, buffers-of}
+use Rattle.reference.specs.Session.{Opening, table, scripted, Request, move, turn, class, goto, buffers-of}
 use Rattle.picture.specs.Picture.{write-refusal, written, read-refusal, read}
-use Rattle.session.specs.Contract.{started, lent-refusal, moved, journal-after, undone, front}
+use Rattle.session.specs.Contract.{started, lent-refusal, moved, journal-after, went, front}
 use Rattle.turns.specs.Contract as turns
 use Rattle.claim.specs.Implementation.{contract, begins, calls, Refused}
 use Rattle.claim.specs.Demand2.{Refusals}
@@ -29,11 +29,11 @@ begun (scripted c x) j e = (rw e, refl)
 
 called : (r : Session) (j : List ℕ) (q : Request) → eqb (calls r j q .refusal) 0 ≡ false →
     (calls r j q .session ≡ r) × (calls r j q .journal ≡ j) × (calls r j q .buffers ≡ buffers-of q)
-unfolding moved journal-after undone turns.turned turns.turn-journal turns.classed turns.class-journal turns.answers-after turns.pictures-after
+unfolding moved journal-after went turns.turned turns.turn-journal turns.classed turns.class-journal turns.answers-after turns.pictures-after
 called r j (move a) e = (rw e, rw e, refl)
 called r j (turn x p) e = (rw e, rw e, refl)
 called r j (class x ps a b) e = (rw e, rw e, rw e)
-called r j back e = (rw e, refl, refl)
+called r j (goto k) e = (rw e, refl, refl)
 
 pub refusals : Refusals contract
 unfolding written read front

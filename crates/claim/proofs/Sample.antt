@@ -1,4 +1,4 @@
--- A session that demand 3 speaks of: accepted and refused moves, turns, classes and steps back, other journals, and calls of other kinds.
+-- A session that demand 3 speaks of: accepted and refused moves, turns, classes and goings, other journals, and calls of other kinds.
 -- Assumes nothing.
 use Prim.Native.Nat.{ℕ, suc}
 use mathlib.Core.List.{List, [], _∷_, _++_}
@@ -14,7 +14,7 @@ use Rattle.reference.specs.Step.{Move, move-of, next, run, act, action-of, line
 use Rattle.reference.specs.Cause.{cause, accepted}
 use Rattle.reference.specs.Script.{script-ok, scripts-ok, progress, turn-move, class-moves, class-answers}
 use Rattle.reference.specs.Touch.{nothing}
-use Rattle.reference.specs.Session.{Opening, scripted, Request, move, turn, class, back, own, other, Reply, bytes, moves, all-but-last, replays, replies}
+use Rattle.reference.specs.Session.{Opening, scripted, Request, move, turn, class, goto, own, other, Reply, bytes, moves, Listed, all-standing, replays, replies}
 use Rattle.turns.specs.Contract as turns
 use Rattle.claim.specs.Implementation.{contract}
 use Rattle.claim.specs.Demand3.{Event, asks, writes, passes, asked, responses, IsSession, opening, Agrees}
@@ -59,12 +59,12 @@ long-length = length-replicate {A = ℕ} 12000 0
 unfoldable pub after-moves : List Move → List ℕ
 after-moves ms = bytes ms ++ replicate 12000 9
 
--- of other moves than the sample's, and of its first two
+-- of other moves than the sample's, and of its first two with another one kept behind them
 abbrev mismatched : List ℕ
 mismatched = after-moves []
 
 abbrev replaying : List ℕ
-replaying = after-moves (move-of 1 1 1 ∷ move-of 1 0 0 ∷ [])
+replaying = after-moves (move-of 1 1 1 ∷ move-of 1 0 0 ∷ move-of 2 4 0 ∷ [])
 
 -- three turns, with buffers of n and m bytes; 3 and 144 are needed
 abbrev three : List ℕ → ℕ → ℕ → Request
@@ -78,12 +78,15 @@ sample =
     ask (turn scripts 1) ∷
     -- 6, 6: a refused turn, and tried again; 0: its script has stayed at the first call, so with other scripts it yields
     ask (turn scripts 2) ∷ ask (turn scripts 2) ∷ ask (turn yield-first 2) ∷
-    -- 0: a step back; 0: thread 1's second call, since its first was made as a move; 0: a step back
-    ask back ∷ ask (turn scripts 1) ∷ ask back ∷
+    -- 0: back by one; 0: thread 1's second call, since its first was made as a move; 9: the move that was gone back over is kept no more; 0: back by one
+    ask (goto 2) ∷ ask (turn scripts 1) ∷ ask (goto 4) ∷ ask (goto 2) ∷
+    -- 0, 6: to the start and forward again, and there thread 2 is still at its first call, which is refused and drops nothing; 0: to the last move kept, and back
+    ask (goto 0) ∷ ask (goto 2) ∷ ask (turn scripts 2) ∷ ask (goto 3) ∷ ask (goto 2) ∷
     -- 2: a refused move
     ask (move (move-of 9 0 0)) ∷
-    -- 16, 16, 16, 16: a journal of other moves, also where scripts and processor are wrong too; 10, 10: one that is short
-    ask-with mismatched back ∷ ask-with mismatched (move (move-of 1 3 1)) ∷ ask-with mismatched (turn [] 9) ∷ ask-with mismatched (three scripts 5 200) ∷
+    -- 16, 9: a journal of other moves, and a step that is not kept; 16, 16, 16: also where scripts and processor are wrong too; 10, 10: one that is short
+    ask-with mismatched (goto 1) ∷ ask-with mismatched (goto 4) ∷
+    ask-with mismatched (move (move-of 1 3 1)) ∷ ask-with mismatched (turn [] 9) ∷ ask-with mismatched (three scripts 5 200) ∷
     ask-with [] (move (move-of 1 3 1)) ∷ ask-with [] (three [] 0 0) ∷
     -- 6, 19, 10: another journal that replays
     ask-with replaying (turn scripts 2) ∷ ask-with replaying (three [] 3 144) ∷ ask-with replaying (three scripts 3 143) ∷
@@ -95,8 +98,8 @@ sample =
     ask (three scripts 2 144) ∷ ask (three scripts 3 143) ∷
     -- 0: the class in longer buffers. It unlocks: one of its turns is refused, two moves are made.
     ask (three scripts 5 200) ∷
-    -- 0, 0, 0, 0, 9
-    ask back ∷ ask back ∷ ask back ∷ ask back ∷ ask back ∷ []
+    -- 0, 0: a class with no accepted turn drops nothing; 0, 9
+    ask (goto 1) ∷ ask (class scripts (9 ∷ []) (99 ∷ []) (replicate 48 99)) ∷ ask (goto 4) ∷ ask (goto 5) ∷ []
 
 -- the numbers of the replies
 unfoldable pub numbers-of : List Reply → List ℕ
@@ -109,19 +112,19 @@ answers-buffer i l = getD (getD l i (record { refusal = 0; touch = nothing; buff
 
 abbrev pub numbers : List ℕ
 numbers =
-    0 ∷ 0 ∷ 6 ∷ 6 ∷ 0 ∷ 0 ∷ 0 ∷ 0 ∷ 2 ∷ 16 ∷ 16 ∷ 16 ∷ 16 ∷ 10 ∷ 10 ∷ 6 ∷ 19 ∷ 10 ∷ 19 ∷ 19 ∷ 19 ∷ 10 ∷ 10 ∷ 0 ∷ 0 ∷ 0 ∷ 0 ∷ 0 ∷ 9 ∷ []
+    0 ∷ 0 ∷ 6 ∷ 6 ∷ 0 ∷ 0 ∷ 0 ∷ 9 ∷ 0 ∷ 0 ∷ 0 ∷ 6 ∷ 0 ∷ 0 ∷ 2 ∷ 16 ∷ 9 ∷ 16 ∷ 16 ∷ 16 ∷ 10 ∷ 10 ∷ 6 ∷ 19 ∷ 10 ∷ 19 ∷ 19 ∷ 19 ∷ 10 ∷ 10 ∷ 0 ∷ 0 ∷ 0 ∷ 0 ∷ 9 ∷ []
 
 -- what the sample computes with: to unfold this is to unfold all that its line names
 computing : Unit {0}
-unfolding zero-state state-ok broken-rule fields-ok after-moves bytes asked replies numbers-of Fits config-cause start tabulate those run next act line cause action-of replays all-but-last accepted moves same-state same-list each script-ok scripts-ok progress turn-move class-moves class-answers
+unfolding zero-state state-ok broken-rule fields-ok after-moves bytes asked replies numbers-of Fits config-cause start tabulate those run next act line cause action-of replays accepted moves same-state same-list each script-ok scripts-ok progress turn-move class-moves class-answers
 computing = tt
 
-sample-answers : numbers-of (replies two 12000 [] (asked sample)) ≡ numbers
+sample-answers : numbers-of (replies two 12000 (all-standing []) (asked sample)) ≡ numbers
 unfolding computing
 sample-answers = refl
 
-sample-buffers : (answers-buffer 23 (replies two 12000 [] (asked sample)) ≡ 0 ∷ 6 ∷ 0 ∷ 99 ∷ 99 ∷ []) ×
-    (answers-buffer 21 (replies two 12000 [] (asked sample)) ≡ 99 ∷ 99 ∷ [])
+sample-buffers : (answers-buffer 30 (replies two 12000 (all-standing []) (asked sample)) ≡ 0 ∷ 6 ∷ 0 ∷ 99 ∷ 99 ∷ []) ×
+    (answers-buffer 28 (replies two 12000 (all-standing []) (asked sample)) ≡ 99 ∷ 99 ∷ [])
 unfolding computing
 sample-buffers = (refl, refl)
 
@@ -136,27 +139,27 @@ begins-accepted = refl
 refused : (n : ℕ) → suc n ≡ 0 → ⊥
 refused n e = omega arith
 
-sample-fits : Fits two 12000 [] sample
+sample-fits : Fits two 12000 (all-standing []) sample
 unfolding computing
 sample-fits =
-    (tt, (tt, (tt, (tt, (tt, (tt, (tt, (tt, (tt, (refused 15, (refused 15, (refused 15, (refused 15, (refused 9, (refused 9, (refused 5, (refused 18, (refused 9, (refused 14, (tt, (tt, (tt, (tt, (tt, (tt, (tt, (tt, (tt, (tt, (tt, tt))))))))))))))))))))))))))))))
+    (tt, (tt, (tt, (tt, (tt, (tt, (tt, (tt, (tt, (tt, (tt, (tt, (tt, (tt, (tt, (refused 15, (refused 8, (refused 15, (refused 15, (refused 15, (refused 9, (refused 9, (refused 5, (refused 18, (refused 9, (refused 14, (tt, (tt, (tt, (tt, (tt, (tt, (tt, (tt, (tt, (tt, tt))))))))))))))))))))))))))))))))))))
 
 -- it is a session of the contracts, and its calls are answered so
 pub sample-belongs : IsSession contract (opening contract begins long) sample
-sample-belongs = is-session begins long begins-accepted sample (subst (λ (n : ℕ). Fits two n [] sample) (sym long-length) sample-fits)
+sample-belongs = is-session begins long begins-accepted sample (subst (λ (n : ℕ). Fits two n (all-standing []) sample) (sym long-length) sample-fits)
 
 pub sample-agrees : Agrees contract begins long sample
 sample-agrees = demand3 .sessions begins long begins-accepted sample sample-belongs
 
-responses-are : responses contract (opening contract begins long) sample ≡ replies two 12000 [] (asked sample)
-responses-are = sample-agrees .answered ∙ ap (λ (n : ℕ). replies two n [] (asked sample)) long-length
+responses-are : responses contract (opening contract begins long) sample ≡ replies two 12000 (all-standing []) (asked sample)
+responses-are = sample-agrees .answered ∙ ap (λ (n : ℕ). replies two n (all-standing []) (asked sample)) long-length
 
 pub sample-responses : numbers-of (responses contract (opening contract begins long) sample) ≡ numbers
 sample-responses = ap numbers-of responses-are ∙ sample-answers
 
 -- the accepted class has put its turns' answers in front of the buffer's later bytes; one that is refused as a whole leaves the buffer
-pub sample-filled : answers-buffer 23 (responses contract (opening contract begins long) sample) ≡ 0 ∷ 6 ∷ 0 ∷ 99 ∷ 99 ∷ []
-sample-filled = ap (answers-buffer 23) responses-are ∙ sample-buffers .0
+pub sample-filled : answers-buffer 30 (responses contract (opening contract begins long) sample) ≡ 0 ∷ 6 ∷ 0 ∷ 99 ∷ 99 ∷ []
+sample-filled = ap (answers-buffer 30) responses-are ∙ sample-buffers .0
 
-pub sample-kept : answers-buffer 21 (responses contract (opening contract begins long) sample) ≡ 99 ∷ 99 ∷ []
-sample-kept = ap (answers-buffer 21) responses-are ∙ sample-buffers .1
+pub sample-kept : answers-buffer 28 (responses contract (opening contract begins long) sample) ≡ 99 ∷ 99 ∷ []
+sample-kept = ap (answers-buffer 28) responses-are ∙ sample-buffers .1

@@ -1,21 +1,24 @@
 -- An accepted call leaves a session's record and journal, whoever wrote those that it was handed: of the contracts.
 -- Assumes nothing.
-use Prim.Native.Nat.{ℕ, _*_}
+use Prim.Native.Nat.{ℕ, _*_, _≤_}
 use mathlib.Core.List.{List}
-use mathlib.Core.Path.{_≡_, sym, ap, _∙_}
+use mathlib.Core.Path.{_≡_, sym, ap, _∙_, subst}
+use native.Mathlib.Omega.{arith}
 use lib.ListN.{length, take}
 use Rattle.state.specs.declared.Session.{Session}
 use Rattle.state.specs.Association.{session-record}
 use Rattle.reference.specs.Start.{Config, start}
-use Rattle.reference.specs.Step.{Move, run}
 use Rattle.reference.specs.Cause.{accepted}
-use Rattle.reference.specs.Session.{Request, own, bytes, accept}
+use Rattle.reference.specs.Safe.{Safe}
+use Rattle.reference.specs.Session.{Request, own, bytes, Listed, standing, state-in, accept}
 use Rattle.reference.proofs.Laws.{safe}
-use Rattle.session.specs.Contract.{config-of, standing}
-use Rattle.session.proofs.Holding.{Agree, Holds, shown-is, applied-held, standing-is}
+use Rattle.session.specs.Contract.{config-of}
+use Rattle.session.specs.Held.{listed-in}
+use Rattle.session.proofs.Holding.{Agree, Holds, standing-legal, shown-is, listed-is}
+use Rattle.session.proofs.Replayed.{length-moves}
 use Rattle.claim.specs.Implementation.{contract, calls}
 use Rattle.claim.specs.Sound.{SoundCall, Sound}
-use Rattle.claim.proofs.Leaves.{calls-agree, leaves, said}
+use Rattle.claim.proofs.Leaves.{calls-agree, state-is, leaves, said}
 
 module _ (r : Session) (j : List ℕ) (q : Request) (e : calls r j q .refusal ≡ 0) where
   t : Agree r j
@@ -24,29 +27,30 @@ module _ (r : Session) (j : List ℕ) (q : Request) (e : calls r j q .refusal �
   abbrev c : Config
   c = config-of r
 
-  abbrev made : List Move
-  made = accept c (standing r j) q own
+  abbrev made : Listed
+  made = accept c (listed-in r j) q own
 
   holds : Holds c made (calls r j q .session) (calls r j q .journal)
   holds = leaves r j q e .0
 
-  stands : standing (calls r j q .session) (calls r j q .journal) ≡ made
-  stands = standing-is c (t .config) made _ _ holds
+  listed : listed-in (calls r j q .session) (calls r j q .journal) ≡ made
+  listed = listed-is c (t .config) made _ _ holds
 
   sound-call : SoundCall contract r j q
   sound-call =
       record {
         config = t .config;
-        legal-before = t .legal;
-        state-before = t .state;
-        made = stands;
+        within-before = omega (arith, t .within, length-moves (r .kept) j);
+        legal-before = t .kept;
+        state-before = state-is r j t;
+        made = listed;
         touched = said r j q e;
-        legal = ap (accepted (start c)) stands ∙ holds .legal;
-        state = shown-is c (t .config) made _ _ holds ∙ sym (ap (run (start c)) stands);
-        session = holds .shows ∙ sym (ap (λ (ms : List Move). session-record (run (start c) ms) (c .B)) stands);
-        count = applied-held c (t .config) made _ _ holds ∙ sym (ap length stands);
-        front = ap (λ (ms : List Move). take (3 * length ms) (calls r j q .journal)) stands ∙ holds .whole ∙ sym (ap bytes stands);
-        safe = rw stands (safe c made (t .config) (holds .legal));
+        within = subst (λ (l : Listed). l .n ≤ length (l .kept)) (sym listed) (holds .within);
+        legal = ap (λ (l : Listed). accepted (start c) (l .kept)) listed ∙ holds .legal;
+        state = shown-is c (t .config) made _ _ holds ∙ sym (ap (state-in c) listed);
+        session = holds .shows ∙ sym (ap (λ (l : Listed). session-record (state-in c l) (c .B) (length (l .kept))) listed);
+        front = ap (λ (l : Listed). take (3 * length (l .kept)) (calls r j q .journal)) listed ∙ holds .whole ∙ sym (ap (λ (l : Listed). bytes (l .kept)) listed);
+        safe = subst (λ (l : Listed). Safe c (standing l)) (sym listed) (safe c (standing made) (t .config) (standing-legal c (t .config) made _ _ holds));
       }
 
 pub sound : Sound contract

@@ -12,27 +12,26 @@ use Rattle.state.specs.declared.Session.{Session}
 use Rattle.state.specs.Record.{zero-processor, processor-of}
 use Rattle.state.specs.Association.{session-record}
 use Rattle.state.specs.model.Access.{with-applied, with-processor}
-use Rattle.reference.specs.Refusal.{refuse}
 use Rattle.reference.specs.Lists.{choose}
 use Rattle.reference.specs.State.{Line, CI2, L7, H2, H5, same-line, processor-at}
 use Rattle.reference.specs.Start.{Config, start}
 use Rattle.reference.specs.Step.{Move, move-of, run}
 use Rattle.reference.specs.Touch.{nothing}
-use Rattle.reference.specs.Session.{move, back, all-but-last}
+use Rattle.reference.specs.Session.{move}
 use Rattle.picture.specs.Turns.{Answer as TurnsAhead}
-use Rattle.session.specs.Contract.{shown, config-of, answered, or-later, lent-refusal, standing}
-use Rattle.claim.specs.Implementation.{Outcome, Pictured, Implementation, outcome, begins, calls, contract}
+use Rattle.session.specs.Contract.{shown}
+use Rattle.claim.specs.Implementation.{Outcome, Pictured, Implementation, begins, calls, contract}
 use Rattle.claim.specs.Demand2.{Demand2}
 use Rattle.claim.specs.Demand3.{Demand3}
 use Rattle.claim.proofs.Sample.{ask, two, long, after-moves}
-use Rattle.claim.proofs.Altered.{with-write, with-ahead, with-move, with-undo, with-moved, only-jumps, one, alone, after-start, lock-move, locks, with-own, with-unrelated, number, computing}
+use Rattle.claim.proofs.Altered.{with-write, with-ahead, with-move, with-moved, only-jumps, one, alone, after-start, lock-move, locks, with-own, number, computing}
 
 -- where processor p of a record stands, and the record with one more standing move
 abbrev position-in : ℕ → Session → ℕ
 position-in p r = getD (r .state .processors) p zero-processor .position
 
 abbrev counted : Session → Session
-counted r = record { state = with-applied (suc (r .state .applied)) (r .state); initial = r .initial }
+counted r = record { state = with-applied (suc (r .state .applied)) (r .state); initial = r .initial; kept = r .kept }
 
 -- a go of processor p
 abbrev go : ℕ → Move
@@ -137,7 +136,7 @@ empty-at-L7-breaks-2 d =
 -- ---- An accepted move does not count itself.
 
 moves-uncounted : Implementation
-moves-uncounted = with-moved (λ r a right. record { state = with-applied (r .state .applied) (right .state); initial = right .initial })
+moves-uncounted = with-moved (λ r a right. record { state = with-applied (r .state .applied) (right .state); initial = right .initial; kept = right .kept })
 
 moves-uncounted-breaks-2 : ¬ (Demand2 moves-uncounted)
 unfolding moves-uncounted computing
@@ -148,7 +147,7 @@ moves-uncounted-breaks-2 d =
 -- ---- One move is applied, after every move.
 
 one-applied : Implementation
-one-applied = with-moved (λ r a right. record { state = with-applied 1 (right .state); initial = right .initial })
+one-applied = with-moved (λ r a right. record { state = with-applied 1 (right .state); initial = right .initial; kept = right .kept })
 
 one-applied-breaks-2 : ¬ (Demand2 one-applied)
 unfolding one-applied computing
@@ -176,7 +175,7 @@ sequence-unchanged =
     with-moved
     (λ r a right.
     let p : ℕ = a .processor in
-    record { state = with-processor p (with-sequence (processor-of (r .state) p .sequence) (processor-of (right .state) p)) (right .state); initial = right .initial })
+    record { state = with-processor p (with-sequence (processor-of (r .state) p .sequence) (processor-of (right .state) p)) (right .state); initial = right .initial; kept = right .kept })
 
 sequence-unchanged-breaks-2 : ¬ (Demand2 sequence-unchanged)
 unfolding sequence-unchanged computing
@@ -219,23 +218,6 @@ refusal-changes-record-breaks-3 : ¬ (Demand3 refusal-changes-record)
 unfolding refusal-changes-record computing
 refusal-changes-record-breaks-3 d =
     let n : _≡_ {A = ℕ} 1 0 = ap (λ (r : Session). r .state .applied) (d .sessions alone long refl (ask (move (go 9)) ∷ []) (tt, tt) .state) in
-    omega arith
-
--- ---- A step back does not test whether the journal replays to the record.
-
-undo-unchecked : Implementation
-undo-unchecked =
-    with-undo
-    (λ r j.
-    outcome
-    (answered (or-later (lent-refusal r (length j)) (refuse (eqb (shown r .applied) 0) 9 0))
-    (session-record (run (start (config-of r)) (all-but-last (standing r j))) (r .initial)) r)
-    j [])
-
-undo-unchecked-breaks-3 : ¬ (Demand3 undo-unchecked)
-unfolding undo-unchecked computing
-undo-unchecked-breaks-3 d =
-    let n : _≡_ {A = ℕ} 0 16 = number (d .sessions alone long refl (locks ∷ []) (tt, tt) .answers-next (with-unrelated back)) in
     omega arith
 
 -- ---- One picture is written for all states.

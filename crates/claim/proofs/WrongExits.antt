@@ -1,6 +1,6 @@
 -- Wrong answers to an exit by an owner, each of which breaks demand 3 (document 02, No. 9).
 -- Assumes nothing.
-use Prim.Native.Nat.{ℕ}
+use Prim.Native.Nat.{ℕ, suc}
 use mathlib.Core.Bool.{Bool, true, _&&_, not}
 use mathlib.Core.List.{List, [], _∷_}
 use mathlib.Core.Path.{_≡_, refl}
@@ -45,7 +45,7 @@ carries-out unseen =
     with-move
     (λ r j a.
     choose (eqb (calls r j (move a) .refusal) 21 && unseen (shown r) (a .processor))
-    (move-outcome (move-answered 0 (session-record (next (shown r) a) (r .initial)) r (touch (shown r) a)) (written-at (shown r .applied) a j))
+    (move-outcome (move-answered 0 (session-record (next (shown r) a) (r .initial) (suc (shown r .applied))) r (touch (shown r) a)) (written-at (shown r .applied) a j))
     (calls r j (move a)))
 
 -- always, as before No. 9

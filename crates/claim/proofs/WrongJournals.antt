@@ -1,6 +1,6 @@
 -- Wrong tests of the journal at a move and at a turn, each of which breaks demand 3 and, where it lets something pass, `Sound` (document 02, No. 6).
 -- Assumes nothing.
-use Prim.Native.Nat.{ℕ}
+use Prim.Native.Nat.{ℕ, suc, _-_}
 use mathlib.Core.Bool.{Bool, true, false, not, true≢false}
 use mathlib.Core.List.{List, [], _∷_}
 use mathlib.Core.Path.{_≡_, refl, sym, ap}
@@ -16,7 +16,7 @@ use Rattle.reference.specs.Start.{start}
 use Rattle.reference.specs.Step.{Move, move-of, next}
 use Rattle.reference.specs.Cause.{cause, accepted}
 use Rattle.reference.specs.Touch.{touch}
-use Rattle.reference.specs.Session.{Request, move, turn, other, Call, all-but-last}
+use Rattle.reference.specs.Session.{Request, move, turn, other, Call, Listed, moves}
 use Rattle.session.specs.Contract.{shown, config-of, answered, move-answered, or-later, lent-refusal, standing, matches, written-at}
 use Rattle.turns.specs.Contract.{turn-made}
 use Rattle.claim.specs.Implementation.{Outcome, Implementation, outcome, move-outcome, calls}
@@ -28,7 +28,7 @@ use Rattle.claim.proofs.Altered.{with-move, with-turn, scripts-refusal,
 -- a move that is refused by k, made where k is 0
 made-unless : ℕ → Session → List ℕ → Move → Outcome
 made-unless k r j a =
-    move-outcome (move-answered k (session-record (next (shown r) a) (r .initial)) r (touch (shown r) a)) (choose (eqb k 0) (written-at (shown r .applied) a j) j)
+    move-outcome (move-answered k (session-record (next (shown r) a) (r .initial) (suc (shown r .applied))) r (touch (shown r) a)) (choose (eqb k 0) (written-at (shown r .applied) a j) j)
 
 -- 10, 15, then 16 where the test says so, then `first`, then the move's causes
 abbrev testing : Bool → ℕ → Session → List ℕ → Move → Outcome
@@ -109,7 +109,7 @@ counts-only-unsound d =
 -- ---- The last standing move is not replayed.
 
 last-unreplayed : Implementation
-last-unreplayed = with-move (λ r j. testing (accepted (start (config-of r)) (all-but-last (standing r j))) 0 r j)
+last-unreplayed = with-move (λ r j. testing (accepted (start (config-of r)) (moves (shown r .applied - 1) j)) 0 r j)
 
 last-unreplayed-breaks-3 : ¬ (Demand3 last-unreplayed)
 unfolding last-unreplayed made-unless computing
@@ -128,7 +128,7 @@ forgets-moves =
     with-move
     (λ r j a.
     let o : Outcome = calls r j (move a) in
-    outcome (answered (o .refusal) (session-record (start (config-of r)) (r .initial)) r) j [])
+    outcome (answered (o .refusal) (session-record (start (config-of r)) (r .initial) 0) r) j [])
 
 forgets-moves-breaks-3 : ¬ (Demand3 forgets-moves)
 unfolding forgets-moves computing
@@ -139,7 +139,7 @@ forgets-moves-breaks-3 d =
 forgets-moves-unsound : ¬ (Sound forgets-moves)
 unfolding forgets-moves computing
 forgets-moves-unsound d =
-    let n : _≡_ {A = ℕ} 0 1 = ap (λ (l : List Move). length l) (d (after-start one []) long (move lock-move) refl .made) in
+    let n : _≡_ {A = ℕ} 0 1 = ap (λ (l : Listed). l .n) (d (after-start one []) long (move lock-move) refl .made) in
     omega arith
 
 -- ---- A move tries 16 after 2, a turn tries it after 19.

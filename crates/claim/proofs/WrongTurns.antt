@@ -113,7 +113,7 @@ exits-one-call-early-breaks-3 d =
 
 begins-19-before-1 : Opening → List ℕ → Outcome
 begins-19-before-1 (table c) j = begins (table c) j
-begins-19-before-1 (scripted c x) j = outcome (answered (or-later (scripts-cause (c .T) x) (config-cause c)) (session-record (start c) (c .B)) zero-session) j []
+begins-19-before-1 (scripted c x) j = outcome (answered (or-later (scripts-cause (c .T) x) (config-cause c)) (session-record (start c) (c .B) 0) zero-session) j []
 
 start-19-before-1-breaks-3 : ¬ (Demand3 (with-begin begins-19-before-1))
 unfolding begins-19-before-1 computing
@@ -206,7 +206,7 @@ class-unchecked =
     (λ r j x ps a b.
     let n : ℕ = or-later (lent-refusal r (length j)) (refuse (lacks-room (config-of r) (length ps) a b) 10 (scripts-refusal r x)) in
     let made : List Move = class-made r j x ps a b in
-    outcome (answered n (session-record (run (start (config-of r)) made) (r .initial)) r) (choose (eqb n 0) (with-front j (bytes made)) j)
+    outcome (answered n (session-record (run (start (config-of r)) made) (r .initial) (length made)) r) (choose (eqb n 0) (with-front j (bytes made)) j)
     (choose (eqb n 0) (with-front a (class-answers (config-of r) x (standing r j) ps)) a ∷
     choose (eqb n 0) (with-front b (class-pictures (config-of r) x (standing r j) ps)) b ∷ []))
 

@@ -3,6 +3,7 @@
 use Prim.Native.Nat.{ℕ}
 use mathlib.Core.List.{List, [], _∷_}
 use mathlib.Core.Path.{_≡_}
+use lib.ListN.{length}
 use Rattle.state.specs.declared.Session.{Session}
 use Rattle.state.specs.Association.{session-record}
 use Rattle.reference.specs.Lists.{with-front}
@@ -10,7 +11,7 @@ use Rattle.reference.specs.Start.{start}
 use Rattle.reference.specs.Step.{Move, run}
 use Rattle.reference.specs.Safe.{Safe}
 use Rattle.reference.specs.Script.{class-moves, class-answers, class-pictures}
-use Rattle.reference.specs.Session.{Opening, own, move, turn, class}
+use Rattle.reference.specs.Session.{Opening, own, move, turn, class, standing, grown}
 use Rattle.turns.specs.Contract.{turn-made}
 use Rattle.claim.specs.Implementation.{Implementation, Outcome}
 use Rattle.claim.specs.Demand3.{Event, asks, held-after, IsSession, opening, held-at-end, config, listed}
@@ -33,21 +34,21 @@ module _ (impl : Implementation) (o : Opening) (j : List ℕ) (es : List Event) 
 
   -- the moves that stood before it, and those that stand after it: with them the ones that its accepted turns made
   abbrev pub before : List Move
-  before = listed impl o j es
+  before = standing (listed impl o j es)
 
-  abbrev pub standing : List Move
-  standing = class-moves (config impl o j es) x before ps
+  abbrev pub made : List Move
+  made = class-moves (config impl o j es) x before ps
 
   pub record ClassIs : Type 0 where
-    -- the state is the one that the moves give by themselves,
-    pub state : done .session ≡ session-record (run (start (config impl o j es)) standing) (config impl o j es .B)
+    -- the state is the one that the moves give by themselves; what was kept beyond the standing ones is gone where a turn is accepted, else kept,
+    pub state : done .session ≡ session-record (run (start (config impl o j es)) made) (config impl o j es .B) (length (grown (listed impl o j es) made .kept))
     -- each turn is answered by its move's number, and every picture on the way is that of its state,
     pub buffers : done .buffers ≡
         with-front answers (class-answers (config impl o j es) x before ps) ∷ with-front pictures (class-pictures (config impl o j es) x before ps) ∷ []
     -- record and journal are those that turn after turn leaves,
     pub turn-by-turn : record { session = done .session; journal = done .journal } ≡ held-after impl (held-at-end impl o j es) (turns x ps)
     -- and the laws hold
-    pub safe : Safe (config impl o j es) standing
+    pub safe : Safe (config impl o j es) made
 
 abbrev pub Classes : Implementation → Type 0
 Classes impl =

@@ -1,7 +1,7 @@
 -- Demand 2: a move is the reference machine's, a picture shows its state and nothing else, turns ahead are the formula's, and a refusal changes nothing.
 -- `Demand2` is the statement, for any implementation; proofs/Demand2.antt proves it of the contracts.
 -- Assumes nothing.
-use Prim.Native.Nat.{ℕ, _≤_}
+use Prim.Native.Nat.{ℕ, suc, _≤_}
 use mathlib.Core.Bool.{not}
 use mathlib.Core.List.{List, []}
 use mathlib.Core.Path.{_≡_}
@@ -38,8 +38,8 @@ module _ (impl : Implementation) (r : Session) (j : List ℕ) (a : Move) where
     -- state is one that a session reaches.
     pub number : made .refusal ≡
         refuse (short (length j)) too-short (refuse (not (session-ok r)) bad-record (refuse (not (matches r j)) bad-journal (cause (shown r) a)))
-    -- accepted, it gives the record of the next state with the same B, and puts its three bytes behind the journal's standing moves
-    pub session : made .refusal ≡ 0 → made .session ≡ session-record (next (shown r) a) (r .initial)
+    -- accepted, it gives the record of the next state with the same B and no move kept beyond it, and puts its three bytes behind the journal's standing moves
+    pub session : made .refusal ≡ 0 → made .session ≡ session-record (next (shown r) a) (r .initial) (suc (shown r .applied))
     pub journal : made .refusal ≡ 0 → made .journal ≡ written-at (shown r .applied) a j
     -- that record is valid and shows the next state
     pub valid : Sized (r .state) → made .refusal ≡ 0 → ValidSession (made .session)
@@ -70,7 +70,7 @@ module _ (impl : Implementation) where
   pub record Refusals : Type 0 where
     -- an opening gives the all-zero record, and leaves the journal
     pub begin : (o : Opening) (j : List ℕ) → Refused (impl .begin o j .refusal) → (impl .begin o j .session ≡ zero-session) × (impl .begin o j .journal ≡ j)
-    -- a move, turn, class or step back gives the record handed in, and leaves the journal and the further buffers
+    -- a move, turn, class or going gives the record handed in, and leaves the journal and the further buffers
     pub call : (r : Session) (j : List ℕ) (q : Request) → Refused (impl .call r j q .refusal) →
         (impl .call r j q .session ≡ r) × (impl .call r j q .journal ≡ j) × (impl .call r j q .buffers ≡ buffers-of q)
     -- writing leaves the buffer

@@ -9,15 +9,14 @@ use Rattle.state.specs.declared.Session.{Session}
 use Rattle.state.specs.Association.{session-record}
 use Rattle.reference.specs.Lists.{with-front}
 use Rattle.reference.specs.Start.{Config}
-use Rattle.reference.specs.Step.{Move}
 use Rattle.reference.specs.Safe.{Safe}
 use Rattle.reference.specs.Picture.{picture}
-use Rattle.reference.specs.Session.{Opening, opened, Request, Lent, own, other, Call, Reply, bytes, state-of, answer, after, left, replies}
+use Rattle.reference.specs.Session.{Opening, opened, Request, Lent, own, other, Call, Reply, bytes, Listed, standing, all-standing, state-in, answer, after, left, replies}
 use Rattle.claim.specs.Implementation.{Implementation, Outcome, Refused}
 
 -- ---- a session on an implementation
 
--- what happens: a move, turn, class or step back, lent the session's journal or another; a picture of any state written into the session's journal, lent as the
+-- what happens: a move, turn, class or going, lent the session's journal or another; a picture of any state written into the session's journal, lent as the
 -- buffer; any other call (an opening, the journal's front or test, the last move's words, reading, turns ahead, writing elsewhere). These last are lent neither the
 -- session's record nor its journal to change: the journal's front is lent a byte for its number besides, and the journal itself for reading.
 pub data Event : Type 0 where
@@ -25,7 +24,7 @@ pub data Event : Type 0 where
   writes : State → Event
   passes : Event
 
--- the moves, turns, classes and steps back: what the reference session is fed
+-- the moves, turns, classes and goings: what the reference session is fed
 unfoldable pub asked : List Event → List Call
 asked [] = []
 asked (asks q ∷ es) = q ∷ asked es
@@ -64,7 +63,7 @@ module _ (impl : Implementation) where
   held-after h [] = h
   held-after h (e ∷ es) = held-after (step h e) es
 
-  -- the answers to the moves, turns, classes and steps back
+  -- the answers to the moves, turns, classes and goings
   unfoldable pub responses : Held → List Event → List Reply
   responses h [] = []
   responses h (asks q ∷ es) = reply (gives h q) ∷ responses (step h (asks q)) es
@@ -89,10 +88,10 @@ module _ (impl : Implementation) where
   abbrev pub opening : Opening → List ℕ → Held
   opening o j = record { session = impl .begin o j .session; journal = impl .begin o j .journal }
 
--- the most moves that ever stand in the reference session
-unfoldable pub most : Config → ℕ → List Move → List Call → ℕ
-most c size ms [] = length ms
-most c size ms (q ∷ rest) = max (length ms) (most c size (after c size ms q) rest)
+-- the most moves that are ever kept in the reference session
+unfoldable pub most : Config → ℕ → Listed → List Call → ℕ
+most c size l [] = length (l .kept)
+most c size l (q ∷ rest) = max (length (l .kept)) (most c size (after c size l q) rest)
 
 -- ---- the claim
 
@@ -103,33 +102,37 @@ module _ (impl : Implementation) where
     abbrev pub held-at-end : Held
     held-at-end = held-after impl (opening impl o j) es
 
-    -- the start table, the list that the reference session holds, and the most moves that ever stood in it
+    -- the start table, what the reference session holds at first and then, and the most moves that were ever kept in it
     abbrev pub config : Config
     config = opened o .config
 
-    abbrev pub listed : List Move
-    listed = left config (length j) (opened o .listed) (asked es)
+    abbrev pub first : Listed
+    first = all-standing (opened o .listed)
+
+    abbrev pub listed : Listed
+    listed = left config (length j) first (asked es)
 
     abbrev pub highest : ℕ
-    highest = most config (length j) (opened o .listed) (asked es)
+    highest = most config (length j) first (asked es)
 
     pub record Agrees : Type 0 where
-      -- each move, turn, class and step back was answered as in the reference session, the words that it touched and further buffers included,
-      pub answered : responses impl (opening impl o j) es ≡ replies config (length j) (opened o .listed) (asked es)
+      -- each move, turn, class and going was answered as in the reference session, the words that it touched and further buffers included,
+      pub answered : responses impl (opening impl o j) es ≡ replies config (length j) first (asked es)
       -- and so will be the next, whichever it is and whatever journal it is lent
       pub answers-next : (q : Call) → reply (gives impl held-at-end q) ≡ answer config (length j) listed q
-      -- the record shows the reference session's state, and has the B of its start
-      pub state : held-at-end .session ≡ session-record (state-of config listed) (config .B)
+      -- the record shows the reference session's state, and has the B of its start and as many moves kept as are listed
+      pub state : held-at-end .session ≡ session-record (state-in config listed) (config .B) (length (listed .kept))
       -- and so it is pictured, in any buffer that is long enough
-      pub pictured : (b : List ℕ) → length (picture (state-of config listed)) ≤ length b →
-          impl .write (held-at-end .session .state) b ≡ record { refusal = 0; buffer = with-front b (picture (state-of config listed)) }
-      -- the journal begins with the list, move by move
-      pub standing : take (3 * length listed) (held-at-end .journal) ≡ bytes listed
-      -- the journal's length, and its bytes where no move ever stood, are those that it came with
+      pub pictured : (b : List ℕ) → length (picture (state-in config listed)) ≤ length b →
+          impl .write (held-at-end .session .state) b ≡ record { refusal = 0; buffer = with-front b (picture (state-in config listed)) }
+      -- no more moves stand than are kept, and the journal begins with all of these, move by move
+      pub within : listed .n ≤ length (listed .kept)
+      pub kept : take (3 * length (listed .kept)) (held-at-end .journal) ≡ bytes (listed .kept)
+      -- the journal's length, and its bytes where no move was ever kept, are those that it came with
       pub size : length (held-at-end .journal) ≡ length j
       pub untouched : drop (3 * highest) (held-at-end .journal) ≡ drop (3 * highest) j
-      -- by the history of the list no mutex has two owners, an owner is a living thread, every thread is in exactly one place and nobody is left waiting
-      pub safe : Safe config listed
+      -- by the history of the standing moves no mutex has two owners, an owner is a living thread, every thread is in exactly one place and nobody is left waiting
+      pub safe : Safe config (standing listed)
 
   pub record Demand3 : Type 0 where
     -- an opening is refused exactly where the reference session's is

@@ -8,13 +8,13 @@ use Rattle.state.specs.declared.State.{State}
 use Rattle.state.specs.declared.Session.{Session}
 use Rattle.reference.specs.Touch.{Touch, nothing}
 use Rattle.touch.specs.Association.{touch-shown}
-use Rattle.reference.specs.Session.{Opening, table, scripted, Request, move, turn, class, back}
+use Rattle.reference.specs.Session.{Opening, table, scripted, Request, move, turn, class, goto}
 use Rattle.picture.specs.declared.answer.Read.{Read}
 use Rattle.picture.specs.Picture.{write-refusal, written, read}
 use Rattle.picture.specs.Turns.{Answer as TurnsAhead, meaning, ahead}
 use Rattle.session.specs.declared.Answer.{Answer}
 use Rattle.session.specs.declared.MoveAnswer.{MoveAnswer}
-use Rattle.session.specs.Contract.{started, lent-refusal, moved, journal-after, undone, front}
+use Rattle.session.specs.Contract.{started, lent-refusal, moved, journal-after, went, front}
 use Rattle.turns.specs.Contract as turns
 
 -- what a call leaves: its number, the record, the words that it says it touched, the journal that it was lent, the further buffers
@@ -64,7 +64,7 @@ abbrev pub begins : Opening → List ℕ → Outcome
 begins (table c) j = outcome (started c) j []
 begins (scripted c x) j = outcome (turns.scripted c x) j []
 
--- the contracts of move, turn, class and step back. A step back gives no journal back: it is lent one for reading only, so nothing that meets its contract can
+-- the contracts of move, turn, class and going. Going gives no journal back: it is lent one for reading only, so nothing that meets its contract can
 -- change it, and what it leaves is the journal as it was.
 abbrev pub calls : Session → List ℕ → Request → Outcome
 calls r j (move a) = move-outcome (moved r j a) (journal-after r j a)
@@ -72,7 +72,7 @@ calls r j (turn x p) = move-outcome (turns.turned r j x p) (turns.turn-journal r
 calls r j (class x ps answers pictures) =
     outcome (turns.classed r j x ps answers pictures) (turns.class-journal r j x ps answers pictures)
     (turns.answers-after r j x ps answers pictures ∷ turns.pictures-after r j x ps answers pictures ∷ [])
-calls r j back = outcome (undone r j) j []
+calls r j (goto k) = outcome (went r j k) j []
 
 abbrev pub contract : Implementation
 contract =

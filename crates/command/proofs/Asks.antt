@@ -11,17 +11,17 @@ use lib.ListN.{length, getD, drop, length-append, drop-of-length-le}
 use lib.Seq.{drop-append-seam, drop-append-add, drop-drop}
 use borrow.Author.Tests.{lt-ltb, le-ltb, ltb-true, ltb-false, leb-true, eq-eqb, ne-eqb, eqb-true}
 use Rattle.command.specs.declared.Command.{Command}
-use Rattle.command.specs.declared.Command.the-variants.{Start, StartWith, Move, Back, Show, Unknown}
+use Rattle.command.specs.declared.Command.the-variants.{Start, StartWith, Move, Goto, Show, Unknown}
 use Rattle.command.specs.declared.reading.Field.{Field}
 use Rattle.command.specs.Printing.{decimal}
 use Rattle.command.specs.Command.{field, spell, Known}
 use Rattle.command.specs.Request.{Ask, plain, script, turn, turns, view, chart, mark, mark-own, help, script-word, turn-word, turns-word, view-word, chart-word, mark-word, help-word, fields, hex-field, spell-ask, Bytes, KnownAsk}
 use Rattle.command.specs.model.Hex.{hex-bytes}
-use Rattle.command.specs.model.Reading.{is-digit, field-of, field-at, starts, command-of}
-use Rattle.command.specs.model.Request.{values, left, listed, unknown, calls-in, script-from, script-line, turns-from, turns-line, turn-line, first-hex, second-hex, mark-from, mark-line, is-word, short-line, ask-of}
+use Rattle.command.specs.model.Reading.{is-digit, number-of, number-at, field-at, starts, is-word, command-of}
+use Rattle.command.specs.model.Request.{values, left, listed, unknown, calls-in, script-from, script-line, turns-from, turns-line, turn-line, first-hex, second-hex, mark-from, mark-line, short-line, ask-of}
 use Rattle.command.proofs.Laws.{both}
 use Rattle.command.proofs.Fields.{field-spelled, field-only}
-use Rattle.command.proofs.Lines.{Written, no-digit, field-positive, field-length, starts-front, word-only, spelled-read, read, spell-length}
+use Rattle.command.proofs.Lines.{Written, no-digit, field-positive, field-length, starts-front, is-only, spelled-read, read, spell-length}
 use Rattle.command.proofs.Digits.{hex-end, hex-then, hex-field-length, Shown, hex-only}
 use Rattle.command.proofs.Listed.{values-more, left-more, values-none, left-none}
 
@@ -33,7 +33,7 @@ head-digit [] = refl
 head-digit (n ∷ ns) = no-digit n (fields ns)
 
 no-width : field-at [] .width ≤ 0
-unfolding field-at field-of
+unfolding field-at number-at number-of
 no-width = omega arith
 
 -- a list that is spelled is read, where there is room for it
@@ -146,7 +146,7 @@ unfolding ask-of short-line is-word starts spell
 plain-spelled (Start p t m b) h = rw (le-ltb 2048 (length (spell (Start p t m b))) (omega (arith, spell-length (Start p t m b))))
 plain-spelled (StartWith p t m b c) h = rw (le-ltb 2048 (length (spell (StartWith p t m b c))) (omega (arith, spell-length (StartWith p t m b c))))
 plain-spelled (Move p a o) h = rw (le-ltb 2048 (length (spell (Move p a o))) (omega (arith, spell-length (Move p a o))))
-plain-spelled Back h = refl
+plain-spelled (Goto k) h = rw (le-ltb 2048 (length (spell (Goto k))) (omega (arith, spell-length (Goto k))))
 plain-spelled Show h = refl
 plain-spelled Unknown h = absurd h
 
@@ -273,10 +273,6 @@ mark-only l h s = either _ own (λ _. either _ two (λ _. inl refl))
         let tail : drop (5 + 2 * length b) l ≡ hex-field c = behind-shown l c (5 + 2 * length b) g ∙ rw (end, append-nil) in
         let line = after-word mark-word l (hex-field b ++ hex-field c) s (behind-shown l b 4 f ∙ ap (λ (x : List ℕ). hex-field b ++ x) (rw m tail)) in
         inr (record { line = line; known = ((f .small, j), (g .small, k), subst (λ (x : List ℕ). length x ≤ 2048) line h) })
-
-is-only : (w l : List ℕ) → is-word w l ≡ true → l ≡ w
-unfolding is-word
-is-only w l e = let p = both (starts w l) (eqb (length l) (length w)) e in word-only w l (sym (eqb-true (length l) (length w) (p .1))) (p .0)
 
 plain-only : (l : List ℕ) → Reads l (plain (command-of l))
 unfolding spell-ask

@@ -7,7 +7,7 @@ use mathlib.Core.Path.{_≡_, refl, sym, ap, subst, _∙_}
 use lib.ListN.{length}
 use borrow.Author.Tests.{lt-ltb}
 use Rattle.command.specs.declared.Command.{Command}
-use Rattle.command.specs.declared.Command.the-variants.{Start, StartWith, Move, Back, Show, Unknown}
+use Rattle.command.specs.declared.Command.the-variants.{Start, StartWith, Move, Goto, Show, Unknown}
 use Rattle.command.specs.Command.{spell, Known}
 use Rattle.command.specs.Request.{Ask, plain, script, turn, turns, view, chart, mark, mark-own, help, spell-ask, KnownAsk}
 use Rattle.command.specs.Grammar.{Grammar, CourseGrammar}
@@ -33,7 +33,7 @@ named Unknown = ⊥
 named (Start p t m b) = Unit {0}
 named (StartWith p t m b c) = Unit {0}
 named (Move p a o) = Unit {0}
-named Back = Unit {0}
+named (Goto k) = Unit {0}
 named Show = Unit {0}
 
 unknown-or : (c : Command) → (c ≡ Unknown) ⊎ (c ≡ Unknown → ⊥)
@@ -42,7 +42,7 @@ unknown-or Unknown = inl refl
 unknown-or (Start p t m b) = inr (λ e. subst named e tt)
 unknown-or (StartWith p t m b c) = inr (λ e. subst named e tt)
 unknown-or (Move p a o) = inr (λ e. subst named e tt)
-unknown-or Back = inr (λ e. subst named e tt)
+unknown-or (Goto k) = inr (λ e. subst named e tt)
 unknown-or Show = inr (λ e. subst named e tt)
 
 module _ {A : Type 0} (none : A) (K : A → Type 0) (s : A → List ℕ) (test : (a : A) → (a ≡ none) ⊎ (a ≡ none → ⊥)) where

@@ -10,14 +10,15 @@ use lib.ListN.{length, getD, drop, length-append, drop-of-length-le}
 use lib.Seq.{drop-append-seam, drop-append-add, drop-drop}
 use borrow.Author.Tests.{lt-ltb, ltb-true, eq-eqb, ne-eqb, eqb-true}
 use Rattle.command.specs.declared.Command.{Command}
-use Rattle.command.specs.declared.Command.the-variants.{Start, StartWith, Move, Back, Show, Unknown}
+use Rattle.command.specs.declared.Command.the-variants.{Start, StartWith, Move, Goto, Show, Unknown}
 use Rattle.command.specs.declared.reading.Field.{Field}
+use Rattle.command.specs.declared.reading.Number.{Number}
 use Rattle.command.specs.declared.reading.Three.{Three}
-use Rattle.command.specs.model.Reading.{is-digit, no-three, field-at, three-from, three-at, starts, start-from, start-line, move-from, move-line, command-of}
-use Rattle.command.specs.Printing.{decimal, hundredths}
-use Rattle.command.specs.Command.{field, start-word, move-word, back-word, show-word, spell, Known}
+use Rattle.command.specs.model.Reading.{is-digit, no-three, number-at, field-at, three-from, three-at, starts, start-from, start-line, move-from, move-line, goto-line, is-word, command-of}
+use Rattle.command.specs.Printing.{decimal, wide, hundredths}
+use Rattle.command.specs.Command.{field, wide-field, start-word, move-word, goto-word, show-word, spell, Known}
 use Rattle.command.proofs.Laws.{both}
-use Rattle.command.proofs.Fields.{field-spelled, field-only}
+use Rattle.command.proofs.Fields.{number-spelled, field-spelled, number-only, field-only}
 
 -- no digit stands where a field starts
 pub no-digit : (n : ℕ) (rest : List ℕ) → is-digit (getD (field n ++ rest) 0 0) ≡ false
@@ -31,6 +32,10 @@ last-digit n = refl
 pub field-positive : (n : ℕ) → 0 < length (field n)
 unfolding field
 field-positive n = omega arith
+
+wide-positive : (n : ℕ) → 0 < length (wide-field n)
+unfolding wide-field
+wide-positive n = omega arith
 
 -- ---- three fields
 
@@ -147,6 +152,14 @@ move-spelled p a o hp ha ho =
     let n : 4 + (length (field p) + length (field a) + length (field o)) ≡ length (move-word ++ (field p ++ (field a ++ field o))) = simp length-append (omega arith) in
     rw (g, lt-ltb 0 (length (field p) + length (field a) + length (field o)) (omega (arith, field-positive p)), eq-eqb _ _ n)
 
+goto-spelled : (k : ℕ) → k ≤ 4000 → goto-line (spell (Goto k)) ≡ Goto k
+unfolding spell goto-line
+goto-spelled k h =
+    let f : number-at 4000 (wide-field k) ≡ record { value = k; width = length (wide-field k) } =
+    ap (number-at 4000) (sym (append-nil (wide-field k))) ∙ number-spelled 4000 k [] h refl (omega arith) in
+    let n : 4 + length (wide-field k) ≡ length (goto-word ++ wide-field k) = omega arith in
+    rw (f, lt-ltb 0 (length (wide-field k)) (wide-positive k), eq-eqb _ _ n)
+
 starts-start : (p t m b : ℕ) → command-of (spell (Start p t m b)) ≡ start-line (spell (Start p t m b))
 unfolding command-of spell starts
 starts-start p t m b = refl
@@ -159,13 +172,17 @@ starts-move : (p a o : ℕ) → command-of (spell (Move p a o)) ≡ move-line (s
 unfolding command-of spell starts
 starts-move p a o = refl
 
+starts-goto : (k : ℕ) → command-of (spell (Goto k)) ≡ goto-line (spell (Goto k))
+unfolding command-of spell starts
+starts-goto k = refl
+
 -- a command that is spelled is read as that command
 pub spelled-read : (c : Command) → Known c → command-of (spell c) ≡ c
-unfolding command-of spell starts
+unfolding command-of is-word spell starts
 spelled-read (Start p t m b) h = starts-start p t m b ∙ start-spelled p t m b (h .0) (h .1) (h .2) (h .3)
 spelled-read (StartWith p t m b c) h = starts-with p t m b c ∙ with-spelled p t m b c (h .0) (h .1) (h .2) (h .3) (h .4)
 spelled-read (Move p a o) h = starts-move p a o ∙ move-spelled p a o (h .0) (h .1) (h .2)
-spelled-read Back h = refl
+spelled-read (Goto k) h = starts-goto k ∙ goto-spelled k h
 spelled-read Show h = refl
 spelled-read Unknown h = absurd h
 
@@ -174,6 +191,12 @@ spelled-read Unknown h = absurd h
 pub record Written (l : List ℕ) (c : Command) : Type 0 where
   pub line : l ≡ spell c
   pub known : Known c
+
+-- by a test
+either : {l : List ℕ} {a b : Command} (t : Bool) → (t ≡ true → (a ≡ Unknown) ⊎ Written l a) → (t ≡ false → (b ≡ Unknown) ⊎ Written l b)
+    → (cond t a b ≡ Unknown) ⊎ Written l (cond t a b)
+either true f g = f refl
+either false f g = g refl
 
 start-only : (l : List ℕ) → starts start-word l ≡ true → (start-line l ≡ Unknown) ⊎ Written l (start-line l)
 unfolding start-line start-from spell
@@ -255,41 +278,39 @@ move-only l s = go (ltb 0 (r .width) && eqb (4 + r .width) (length l)) refl
           known = (fr .small .0, fr .small .1, fr .small .2);
         })
 
+goto-only : (l : List ℕ) → starts goto-word l ≡ true → (goto-line l ≡ Unknown) ⊎ Written l (goto-line l)
+unfolding goto-line spell
+goto-only l s = either (ltb 0 (k .width) && eqb (4 + k .width) (length l)) go (λ _. inl refl)
+  where
+    k : Number
+    k = number-at 4000 (drop 4 l)
+
+    go : (ltb 0 (k .width) && eqb (4 + k .width) (length l)) ≡ true → (Goto (k .value) ≡ Unknown) ⊎ Written l (Goto (k .value))
+    go e =
+        let u = both (ltb 0 (k .width)) (eqb (4 + k .width) (length l)) e in
+        let f = number-only 4000 (drop 4 l) (ltb-true 0 (k .width) (u .0)) in
+        let n = eqb-true (4 + k .width) (length l) (u .1) in
+        let m : length l ≤ 4 + k .width = omega arith in
+        let end : drop (k .width) (drop 4 l) ≡ [] = drop-drop (k .width) 4 l ∙ drop-of-length-le l m in
+        inr (record {
+          line = starts-front goto-word l s ∙ ap (λ (x : List ℕ). goto-word ++ x) (f .front ∙ ap (λ (x : List ℕ). wide-field (k .value) ++ x) end ∙ append-nil (wide-field (k .value)));
+          known = f .small;
+        })
+
 -- a word that is the whole line
-pub word-only : (w l : List ℕ) → length w ≡ length l → starts w l ≡ true → l ≡ w
-word-only w l n s =
+pub is-only : (w l : List ℕ) → is-word w l ≡ true → l ≡ w
+unfolding is-word
+is-only w l e =
+    let p = both (starts w l) (eqb (length l) (length w)) e in
+    let n = eqb-true (length l) (length w) (p .1) in
     let m : length l ≤ length w = omega arith in
-    starts-front w l s ∙ ap (λ (r : List ℕ). w ++ r) (drop-of-length-le l m) ∙ append-nil w
+    starts-front w l (p .0) ∙ ap (λ (r : List ℕ). w ++ r) (drop-of-length-le l m) ∙ append-nil w
 
 pub read : (l : List ℕ) → (command-of l ≡ Unknown) ⊎ Written l (command-of l)
 unfolding command-of spell
-read l = at-start (starts start-word l) refl
-  where
-    short : Command
-    short = cond (starts back-word l) Back (cond (starts show-word l) Show Unknown)
-
-    at-show : (t : Bool) → starts show-word l ≡ t → length l ≡ 4 → (cond t Show Unknown ≡ Unknown) ⊎ Written l (cond t Show Unknown)
-    at-show true e n = inr (record { line = word-only show-word l (sym n) e; known = tt })
-    at-show false e n = inl refl
-
-    at-back : (t : Bool) → starts back-word l ≡ t → length l ≡ 4 → (cond t Back (cond (starts show-word l) Show Unknown) ≡ Unknown) ⊎ Written l (cond t Back (cond (starts show-word l) Show Unknown))
-    at-back true e n = inr (record { line = word-only back-word l (sym n) e; known = tt })
-    at-back false e n = at-show (starts show-word l) refl n
-
-    at-length : (t : Bool) → eqb (length l) 4 ≡ t → (cond t short Unknown ≡ Unknown) ⊎ Written l (cond t short Unknown)
-    at-length true e = at-back (starts back-word l) refl (eqb-true (length l) 4 e)
-    at-length false e = inl refl
-
-    at-move : (t : Bool) → starts move-word l ≡ t
-        → (cond t (move-line l) (cond (eqb (length l) 4) short Unknown) ≡ Unknown) ⊎ Written l (cond t (move-line l) (cond (eqb (length l) 4) short Unknown))
-    at-move true e = move-only l e
-    at-move false e = at-length (eqb (length l) 4) refl
-
-    at-start : (t : Bool) → starts start-word l ≡ t
-        → (cond t (start-line l) (cond (starts move-word l) (move-line l) (cond (eqb (length l) 4) short Unknown)) ≡ Unknown)
-        ⊎ Written l (cond t (start-line l) (cond (starts move-word l) (move-line l) (cond (eqb (length l) 4) short Unknown)))
-    at-start true e = start-only l e
-    at-start false e = at-move (starts move-word l) refl
+read l =
+    either _ (start-only l) (λ _.
+    either _ (move-only l) (λ _. either _ (goto-only l) (λ _. either _ (λ e. inr (record { line = is-only show-word l e; known = tt })) (λ _. inl refl))))
 
 -- a line that is read as a command is that command's spelling
 pub read-spelled : (l : List ℕ) (c : Command) → command-of l ≡ c → Known c → l ≡ spell c
@@ -325,16 +346,28 @@ pub hundredths-length : (n : ℕ) → length (hundredths n) ≤ 6
 unfolding hundredths
 hundredths-length n = simp length-append (omega (arith, decimal-length (n / 100)))
 
+pub wide-length : (n : ℕ) → length (wide n) ≤ 6
+unfolding wide
+wide-length n = go (ltb n 1000)
+  where
+    go : (t : Bool) → length (cond t (decimal n) (decimal (n / 1000) ++ ((48 + n / 100 % 10) ∷ (48 + n / 10 % 10) ∷ (48 + n % 10) ∷ []))) ≤ 6
+    go true = omega (arith, decimal-length n)
+    go false = simp length-append (omega (arith, decimal-length (n / 1000)))
+
 pub field-length : (n : ℕ) → length (field n) ≤ 4
 unfolding field
 field-length n = omega (arith, decimal-length n)
+
+wide-field-length : (n : ℕ) → length (wide-field n) ≤ 7
+unfolding wide-field
+wide-field-length n = omega (arith, wide-length n)
 
 pub spell-length : (c : Command) → length (spell c) ≤ 25
 unfolding spell
 spell-length (Start p t m b) = simp length-append (omega (arith, field-length p, field-length t, field-length m, field-length b))
 spell-length (StartWith p t m b c) = simp length-append (omega (arith, field-length p, field-length t, field-length m, field-length b, field-length c))
 spell-length (Move p a o) = simp length-append (omega (arith, field-length p, field-length a, field-length o))
-spell-length Back = omega arith
+spell-length (Goto k) = omega (arith, wide-field-length k)
 spell-length Show = omega arith
 spell-length Unknown = omega arith
 

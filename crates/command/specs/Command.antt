@@ -2,18 +2,18 @@
 use Prim.Native.Nat.{ℕ, _≤_}
 use mathlib.Core.List.{List, [], _∷_, _++_}
 use Rattle.command.specs.declared.Command.{Command}
-use Rattle.command.specs.declared.Command.the-variants.{Start, StartWith, Move, Back, Show, Unknown}
-use Rattle.command.specs.Printing.{decimal}
+use Rattle.command.specs.declared.Command.the-variants.{Start, StartWith, Move, Goto, Show, Unknown}
+use Rattle.command.specs.Printing.{decimal, wide}
 
--- `start`, `move`, `back`, `show`
+-- `start`, `move`, `goto`, `show`
 abbrev pub start-word : List ℕ
 start-word = 115 ∷ 116 ∷ 97 ∷ 114 ∷ 116 ∷ []
 
 abbrev pub move-word : List ℕ
 move-word = 109 ∷ 111 ∷ 118 ∷ 101 ∷ []
 
-abbrev pub back-word : List ℕ
-back-word = 98 ∷ 97 ∷ 99 ∷ 107 ∷ []
+abbrev pub goto-word : List ℕ
+goto-word = 103 ∷ 111 ∷ 116 ∷ 111 ∷ []
 
 abbrev pub show-word : List ℕ
 show-word = 115 ∷ 104 ∷ 111 ∷ 119 ∷ []
@@ -22,20 +22,24 @@ show-word = 115 ∷ 104 ∷ 111 ∷ 119 ∷ []
 unfoldable pub field : ℕ → List ℕ
 field n = 32 ∷ decimal n
 
+-- the same of a number that may be above 999
+unfoldable pub wide-field : ℕ → List ℕ
+wide-field n = 32 ∷ wide n
+
 -- the line that is the command; Unknown is none
 unfoldable pub spell : Command → List ℕ
 spell (Start p t m b) = start-word ++ (field p ++ (field t ++ (field m ++ field b)))
 spell (StartWith p t m b c) = start-word ++ (field p ++ (field t ++ (field m ++ (field b ++ field c))))
 spell (Move p a o) = move-word ++ (field p ++ (field a ++ field o))
-spell Back = back-word
+spell (Goto k) = goto-word ++ wide-field k
 spell Show = show-word
 spell Unknown = []
 
--- a command, with its numbers bytes
+-- a command, with its numbers bytes; the step of a goto alone is up to 4,000
 abbrev pub Known : Command → Type 0
 Known (Start p t m b) = (p ≤ 255) × (t ≤ 255) × (m ≤ 255) × (b ≤ 255)
 Known (StartWith p t m b c) = (p ≤ 255) × (t ≤ 255) × (m ≤ 255) × (b ≤ 255) × (c ≤ 255)
 Known (Move p a o) = (p ≤ 255) × (a ≤ 255) × (o ≤ 255)
-Known Back = Unit {0}
+Known (Goto k) = k ≤ 4000
 Known Show = Unit {0}
 Known Unknown = ⊥

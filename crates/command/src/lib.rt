@@ -6,12 +6,12 @@ pub mod printing;
 pub mod reading;
 pub mod request;
 
-// start P T M B, the same with a fifth number, move p a o, back, show; any other line is Unknown.
+// start P T M B, the same with a fifth number, move p a o, goto k, show; any other line is Unknown.
 pub enum Command {
     Start(u8, u8, u8, u8),
     StartWith(u8, u8, u8, u8, u8),
     Move(u8, u8, u8),
-    Back,
+    Goto(u16),
     Show,
     Unknown,
 }

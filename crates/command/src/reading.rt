@@ -2,10 +2,16 @@
 ghost use Prim.Native.Nat.{_-_};
 ghost use mathlib.Core.Path.{_≡_};
 ghost use lib.ListN.{getD, drop};
-ghost use Rattle.command.specs.model.Reading.{is-digit, fit, field-of, field-at, three-at, starts, start-line, move-line, command-of};
+ghost use Rattle.command.specs.model.Reading.{is-digit, fit, number-of, number-at, field-at, three-at, starts, is-word, start-line, move-line, goto-line, command-of};
 use crate::Command;
 
 // A space and a number: the number, and how many bytes the two take; a width of 0 says that they are not there.
+pub struct Number {
+    pub value: u16,
+    pub width: u8,
+}
+
+// The same of a number that is a byte.
 pub struct Field {
     pub value: u8,
     pub width: u8,
@@ -35,59 +41,75 @@ fn digit(b: u8) -> bool
     (b'0' <= b) & (b <= b'9')
 }
 
-fn worth(b: u8) -> u16
+fn worth(b: u8) -> u32
     ensures { λ r. ⌜ r ≡ b - 48 ⌝ }
 {
-    if b < b'0' { 0 } else { (b - b'0') as u16 }
+    if b < b'0' { 0 } else { (b - b'0') as u32 }
 }
 
-// A number that is read, if it is at most 255.
-fn fit(n: u16, width: u8) -> Field
-    ensures { λ r. ⌜ r ≡ fit n width ⌝ }
+// A number that is read, if it is not above the most.
+fn fit(most: u16, n: u32, width: u8) -> Number
+    ensures { λ r. ⌜ r ≡ fit most n width ⌝ }
 {
-    if n <= 255 {
-        Field {
-            value: n as u8,
+    if n <= most as u32 {
+        Number {
+            value: n as u16,
             width,
         }
     } else {
-        Field { value: 0, width: 0 }
+        Number { value: 0, width: 0 }
     }
 }
 
-// The field that starts with these bytes: one to three digits without a leading zero.
-fn field_of(space: u8, a: u8, b: u8, c: u8) -> Field
-    ensures { λ r. ⌜ r ≡ field-of space a b c ⌝ }
+// The number that starts with these bytes: one to four digits without a leading zero.
+fn number_of(most: u16, space: u8, a: u8, b: u8, c: u8, d: u8) -> Number
+    ensures { λ r. ⌜ r ≡ number-of most space a b c d ⌝ }
 {
     let first = digit(a);
     let second = digit(b);
     let third = digit(c);
+    let fourth = digit(d);
     let one = worth(a);
     let two = 10 * one + worth(b);
     let three = 10 * two + worth(c);
+    let four = 10 * three + worth(d);
     if (space == b' ') & first {
         if second {
             if a == b'0' {
-                return fit(0, 0);
+                return fit(most, 0, 0);
             }
             if third {
-                return fit(three, 4);
+                if fourth {
+                    return fit(most, four, 5);
+                }
+                return fit(most, three, 4);
             }
-            return fit(two, 3);
+            return fit(most, two, 3);
         }
-        return fit(one, 2);
+        return fit(most, one, 2);
     }
-    fit(0, 0)
+    fit(most, 0, 0)
 }
 
-pub(crate) fn field_at(s: &[u8], at: usize) -> Field
-    ensures { λ r. ⌜ r ≡ field-at (drop at (now (s .entry))) ⌝ }
+fn number_at(most: u16, s: &[u8], at: usize) -> Number
+    ensures { λ r. ⌜ r ≡ number-at most (drop at (now (s .entry))) ⌝ }
 {
     let space = byte(s, at, 0);
     let a = byte(s, at, 1);
     let b = byte(s, at, 2);
     let c = byte(s, at, 3);
-    field_of(space, a, b, c)
+    let d = byte(s, at, 4);
+    number_of(most, space, a, b, c, d)
+}
+
+pub(crate) fn field_at(s: &[u8], at: usize) -> Field
+    ensures { λ r. ⌜ r ≡ field-at (drop at (now (s .entry))) ⌝ }
+{
+    let n = number_at(255, s, at);
+    Field {
+        value: n.value as u8,
+        width: n.width,
+    }
 }
 
 fn three_at(s: &[u8], at: u16) -> Three
@@ -165,6 +187,25 @@ fn step(s: &[u8]) -> Command
     }
 }
 
+// A line that begins with `goto`: one number, up to 4,000.
+fn goto(s: &[u8]) -> Command
+    ensures { λ r. ⌜ r ≡ goto-line (now (s .entry)) ⌝ }
+{
+    let k = number_at(4000, s, 4);
+    let end = 4 + k.width as usize;
+    if (0 < k.width) & (end == s.len()) {
+        return Command::Goto(k.value);
+    }
+    Command::Unknown
+}
+
+// The line is this word.
+pub(crate) fn is_word(word: &[u8], s: &[u8]) -> bool
+    ensures { λ r. ⌜ r ≡ is-word (now (word .entry)) (now (s .entry)) ⌝ }
+{
+    starts(word, s) & (s.len() == word.len())
+}
+
 pub fn command_of(s: &[u8]) -> Command
     ensures { λ r. ⌜ r ≡ command-of (now (s .entry)) ⌝ }
 {
@@ -174,13 +215,10 @@ pub fn command_of(s: &[u8]) -> Command
     if starts(b"move", s) {
         return step(s);
     }
-    if s.len() != 4 {
-        return Command::Unknown;
+    if starts(b"goto", s) {
+        return goto(s);
     }
-    if starts(b"back", s) {
-        return Command::Back;
-    }
-    if starts(b"show", s) {
+    if is_word(b"show", s) {
         return Command::Show;
     }
     Command::Unknown

@@ -4,11 +4,12 @@ ghost use mathlib.Core.Path.{_≡_};
 ghost use mathlib.Core.List.{List, _++_};
 ghost use lib.ListN.{length, drop};
 ghost use Rattle.command.specs.Request.{asked, count-in, over};
-ghost use Rattle.command.specs.model.Request.{values, listed, is-word, calls-in, script-line, turns-line, turn-line, first-hex, second-hex, mark-line, short-line, ask-in, front-in};
+ghost use Rattle.command.specs.model.Request.{values, listed, calls-in, script-line, turns-line, turn-line, first-hex, second-hex, mark-line, short-line, ask-in, front-in};
 use crate::Command;
 use crate::hex::hex_bytes;
 use crate::reading::command_of;
 use crate::reading::field_at;
+use crate::reading::is_word;
 use crate::reading::starts;
 
 // The stepper's lines, and script k a o .., turn p, turns p .., view, chart, mark, help. Plain(Unknown) is a line that is no command.
@@ -120,13 +121,6 @@ fn mark(s: &[u8], numbers: &mut [u8]) -> Request
         return Request::Mark(n as u16, m as u16);
     }
     Request::Plain(Command::Unknown)
-}
-
-// The line is this word.
-fn is_word(word: &[u8], s: &[u8]) -> bool
-    ensures { λ r. ⌜ r ≡ is-word (now (word .entry)) (now (s .entry)) ⌝ }
-{
-    starts(word, s) & (s.len() == word.len())
 }
 
 // A line without a list of numbers.

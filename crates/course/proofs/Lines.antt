@@ -17,7 +17,7 @@ use Rattle.reference.specs.Step.{move-of}
 use Rattle.reference.specs.Touch.{Touch}
 use Rattle.touch.specs.Association.{touch-shown}
 use Rattle.view.specs.Words.{touch-text}
-use Rattle.command.specs.declared.Command.the-variants.{Start, StartWith, Move, Back, Show, Unknown}
+use Rattle.command.specs.declared.Command.the-variants.{Start, StartWith, Move, Goto, Show, Unknown}
 use Rattle.state.proofs.Branch.{if-none, if-some}
 use Rattle.script.specs.Contract.{set-refusal, scripts-after}
 use Rattle.turns.specs.Contract.{turned, turn-journal, classed, class-journal}
@@ -130,7 +130,7 @@ abbrev is-move : Command → Bool
 is-move (Start p t m b) = false
 is-move (StartWith p t m b s) = false
 is-move (Move p a o) = true
-is-move Back = false
+is-move (Goto i) = false
 is-move Show = false
 is-move Unknown = false
 
@@ -142,7 +142,7 @@ as-stepper d j x (StartWith p t m b s) h = refl
 as-stepper d j x (Move p a o) h =
     ap (λ (t : Bool). cond t (number (moved (d .session) j (move-of p a o) .refusal)) question-mark) (h refl) ∙
     passed-over (d .begun) (answer-text (moved (d .session) j (move-of p a o))) question-mark question-mark (h refl) refl
-as-stepper d j x Back h = refl
+as-stepper d j x (Goto i) h = refl
 as-stepper d j x Show h = refl
 as-stepper d j x Unknown h = refl
 

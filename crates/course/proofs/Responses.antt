@@ -26,7 +26,7 @@ use Rattle.reference.specs.Step as step
 use Rattle.reference.specs.Step.{move-of}
 use Rattle.reference.specs.Touch.{Word, none, count, token, queue, ready, birth, Touch}
 use Rattle.command.specs.declared.Command.{Command}
-use Rattle.command.specs.declared.Command.the-variants.{Start, StartWith, Move, Back, Show, Unknown}
+use Rattle.command.specs.declared.Command.the-variants.{Start, StartWith, Move, Goto, Show, Unknown}
 use Rattle.reference.specs.Cause.{accepted}
 use Rattle.reference.specs.Picture.{picture}
 use Rattle.reference.specs.Script.{turn-cause, turn-after}
@@ -39,7 +39,7 @@ use Rattle.touch.specs.Association.{touch-shown}
 use Rattle.view.specs.Words.{trimmed, word-at, kind-word, word-text, touch-text}
 use Rattle.command.specs.Command.{field}
 use Rattle.session.proofs.Answers.{or-passed, lent-passed}
-use Rattle.session.proofs.Undone.{state-right}
+use Rattle.session.proofs.Found.{state-right}
 use Rattle.session.proofs.Holding.{agrees}
 use Rattle.session.proofs.Shown.{picture-long}
 use Rattle.turns.specs.Contract.{turned, class-refusal}
@@ -137,7 +137,7 @@ plain-length k (StartWith p t m b s) = omega (arith, shell.response-length (Star
 plain-length k (Move p a o) =
     let x = moved (k .base .session) (k .base .journal) (move-of p a o) in
     choice-length (k .base .begun) _ question-mark (omega (arith, move-length (x .refusal) (touch-shown (x .touch)))) (omega arith)
-plain-length k Back = omega (arith, shell.response-length Back (k .base))
+plain-length k (Goto i) = omega (arith, shell.response-length (Goto i) (k .base))
 plain-length k Show = omega (arith, shell.response-length Show (k .base))
 plain-length k Unknown = omega (arith, shell.response-length Unknown (k .base))
 

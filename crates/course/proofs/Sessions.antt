@@ -14,7 +14,7 @@ use Rattle.command.specs.Transcript.{counts, Lines, no-line, one-more-line, Run
 use Rattle.command.specs.Request.{Ask, plain, script, turn, turns, view, chart, mark, mark-own, help, turns-word, fields, spell-ask, KnownAsk}
 use Rattle.command.specs.model.Request.{ask-of}
 use Rattle.command.specs.declared.Command.{Command}
-use Rattle.command.specs.declared.Command.the-variants.{Start, StartWith, Move, Back, Show, Unknown}
+use Rattle.command.specs.declared.Command.the-variants.{Start, StartWith, Move, Goto, Show, Unknown}
 use Rattle.command.proofs.Asks.{fields-wide}
 use Rattle.command.proofs.Grammar.{course-grammar-holds}
 use Rattle.state.specs.declared.Session.{Session}
@@ -24,20 +24,22 @@ use Rattle.reference.specs.Lists.{choose, if-zero}
 use Rattle.reference.specs.State.{State}
 use Rattle.reference.specs.Start.{Config, config-cause, start}
 use Rattle.reference.specs.Step as step-of
+use Rattle.reference.specs.Cause.{accepted}
 use Rattle.reference.proofs.Legal.{cause-number}
 use Rattle.reference.specs.Touch.{nothing, last-touch}
 use Rattle.reference.specs.Picture.{picture}
 use Rattle.reference.specs.Script.{scripts-ok}
 use Rattle.reference.specs.Session as reference
-use Rattle.reference.specs.Session.{Request, Reply, touches, own, short, lacks-room, picture-size, state-of, answer-to}
+use Rattle.reference.specs.Session.{Request, Reply, touches, own, short, lacks-room, picture-size, Listed, standing as standing-of, state-in, answer-to}
 use Rattle.reference.proofs.Start.{ranges}
 use Rattle.reference.proofs.Laws.{safe}
+use Rattle.reference.proofs.Moves.{accepted-take}
 use Rattle.shown.proofs.Unique.{encode-sized}
 use Rattle.picture.specs.Picture.{write-refusal}
 use Rattle.mark.specs.Mark as marks
 use Rattle.mark.specs.Mark.{mark-refusal, marked, state-marked}
 use Rattle.mark.proofs.Laws.{laws}
-use Rattle.session.specs.Contract.{config-of, or-later, table, started, standing, test-refusal, moved, undone, last-touched}
+use Rattle.session.specs.Contract.{config-of, or-later, table, started, standing, test-refusal, moved, went, last-touched}
 use Rattle.session.proofs.Numbers.{test-number, own-replays}
 use Rattle.touch.proofs.Agrees.{touch-back}
 use Rattle.view.specs.Table as view-of
@@ -88,21 +90,21 @@ module _ (h : Held) (s : InSession h) where
   abbrev c : Config
   c = s .config
 
-  abbrev ms : List step-of.Move
-  ms = listed contract (reference.table c) (s .first) (s .events)
+  abbrev list-in : Listed
+  list-in = listed contract (reference.table c) (s .first) (s .events)
 
   right-is : config-cause c ≡ 0
   right-is = first-right (reference.table c) (s .first) (s .begins)
 
-  holds : Holds c ms (h .session) (h .journal)
+  holds : Holds c list-in (h .session) (h .journal)
   unfolding Reached
-  holds = subst (λ (g : Held). Holds c ms (g .session) (g .journal)) (s .leads) (reached (reference.table c) (s .first) (s .begins) (s .events) (s .is-session) .1 .holds)
+  holds = subst (λ (g : Held). Holds c list-in (g .session) (g .journal)) (s .leads) (reached (reference.table c) (s .first) (s .begins) (s .events) (s .is-session) .1 .holds)
 
   size-is : length (h .journal) ≡ length (s .first)
   size-is = ap (λ (g : Held). length (g .journal)) (sym (s .leads)) ∙ demand3 .sessions (reference.table c) (s .first) (s .begins) (s .events) (s .is-session) .size
 
   threads-is : h .session .state .t ≡ c .T
-  threads-is = ap (λ (d : Config). d .T) (config-is c right-is ms (h .session) (h .journal) holds)
+  threads-is = ap (λ (d : Config). d .T) (config-is c right-is list-in (h .session) (h .journal) holds)
 
 -- ---- line by line: the journal and the scripts keep their lengths, and what has begun is a session of demand 3, whose scripts are in order
 
@@ -157,7 +159,7 @@ module _ (n m : ℕ) where
   kept-plain k g (Start p t m i) = kept-start k g (table p t m i 0)
   kept-plain k g (StartWith p t m i s) = kept-start k g (table p t m i s)
   kept-plain k g (Move p a o) = subst Kept (chosen-base (k .base .begun) k _) (kept-call k g (reference.move (step-of.move-of p a o)))
-  kept-plain k g Back = subst Kept (chosen-base (k .base .begun) k _) (kept-call k g reference.back)
+  kept-plain k g (Goto i) = subst Kept (chosen-base (k .base .begun) k _) (kept-call k g (reference.goto i))
   kept-plain k g Show = g
   kept-plain k g Unknown = g
 
@@ -232,8 +234,11 @@ module _ (n m : ℕ) (k : Context) (g : Kept n m k) (b : k .base .begun ≡ true
   abbrev d : Config
   d = s .config
 
-  abbrev l : List step-of.Move
-  l = ms (held-by k) s
+  abbrev l : Listed
+  l = list-in (held-by k) s
+
+  abbrev ms : List step-of.Move
+  ms = standing-of l
 
   abbrev r : Session
   r = k .base .session
@@ -246,6 +251,9 @@ module _ (n m : ℕ) (k : Context) (g : Kept n m k) (b : k .base .begun ≡ true
 
   shows : Holds d l r j
   shows = holds (held-by k) s
+
+  legal : accepted (start d) ms ≡ true
+  legal = accepted-take (l .n) (l .kept) (start d) (shows .legal)
 
   numbered : (q : Request) → calls r j q .refusal ≡ answer-to d n l q own
   numbered q = claim.number d good l r j shows n (g .long) own q
@@ -267,7 +275,7 @@ module _ (n m : ℕ) (k : Context) (g : Kept n m k) (b : k .base .begun ≡ true
         let small : picture-size d ≤ 296 = omega (arith, f .processors .1, f .threads .1, f .mutexes .1) in
         rw (zeros-long 1024, zeros-long 303104, le-ltb 1024 (length ps) h) (le-ltb 303104 (length ps * picture-size d) (omega (arith, mul-le-mul h small)))
 
-    to-turns : (i ps : List ℕ) → ask-of i ≡ turns ps → response k (turns ps) ≡ class-lines d (k .scripts) l ps
+    to-turns : (i ps : List ℕ) → ask-of i ≡ turns ps → response k (turns ps) ≡ class-lines d (k .scripts) ms ps
     unfolding response class-text classed
     to-turns i ps e =
         let none : class-refusal r j (k .scripts) ps (zeros 1024) (zeros 303104) ≡ 0 =
@@ -276,33 +284,33 @@ module _ (n m : ℕ) (k : Context) (g : Kept n m k) (b : k .base .begun ≡ true
         (ap (λ (z : ℕ). if-zero z (class-lines (config-of r) (k .scripts) (standing r j) ps) (number z)) none ∙
         (λ t. class-lines (config-is d good l r j shows t) (k .scripts) (standing-is d good l r j shows t) ps))
 
-    to-show : response k (plain Show) ≡ hex (picture (state-of d l)) ++ line-feed
+    to-show : response k (plain Show) ≡ hex (picture (state-in d l)) ++ line-feed
     unfolding response plain-response shell.response shell.picture-text
     to-show =
         let f = ranges d good in
         let small : picture-size d ≤ length (zeros 296) = omega (arith, zeros-long 296, f .processors .1, f .threads .1, f .mutexes .1) in
         let none : write-refusal (r .state) 296 ≡ 0 =
-        ap₂ (λ (q : Session) (z : ℕ). write-refusal (q .state) z) (shows .shows) (sym (zeros-long 296)) ∙ fits d l good (shows .legal) (zeros 296) small in
+        ap₂ (λ (q : Session) (z : ℕ). write-refusal (q .state) z) (shows .shows) (sym (zeros-long 296)) ∙ fits d ms good legal (zeros 296) small in
         said (shell.picture-text (r .state)) _
         (ap (λ (z : ℕ). cond (eqb z 0) (hex (picture (decode (r .state))) ++ line-feed) (number z)) none ∙
         ap (λ (z : State). hex (picture z) ++ line-feed) (shown-is d good l r j shows))
 
     to-mark : (c : List ℕ) → response k (mark-own c) ≡
-        choose (eqb (length c) (picture-size d)) (hundredths (marks.mark (picture (state-of d l)) c) ++ line-feed) (number bad-length)
+        choose (eqb (length c) (picture-size d)) (hundredths (marks.mark (picture (state-in d l)) c) ++ line-feed) (number bad-length)
     unfolding response mark-text marked
     to-mark c =
-        let z : State = state-of d l in
-        let back = state-back d l good (shows .legal) in
-        let w = laws .own (encode z) c (encode-sized z) (state-right d l good (shows .legal)) in
+        let z : State = state-in d l in
+        let back = state-back d ms good legal in
+        let w = laws .own (encode z) c (encode-sized z) (state-right d ms good legal) in
         let is : state-marked (r .state) c ≡ marked (picture z) c =
         ap (λ (q : Session). state-marked (q .state) c) (shows .shows) ∙ w .0 ∙ ap (λ (y : State). marked (picture y) c) back in
         said (mark-text (state-marked (r .state) c)) _
-        (ap mark-text is ∙ go (eqb (length c) (picture-size d)) refl (picture-long d l good (shows .legal)) (rw back at (w .1)) (rw back at (w .2)))
+        (ap mark-text is ∙ go (eqb (length c) (picture-size d)) refl (picture-long d ms good legal) (rw back at (w .1)) (rw back at (w .2)))
       where
-        go : (t : Bool) → eqb (length c) (picture-size d) ≡ t → length (picture (state-of d l)) ≡ picture-size d
-            → (length c ≡ length (picture (state-of d l)) → mark-refusal (picture (state-of d l)) c ≡ 0)
-            → ((length c ≡ length (picture (state-of d l)) → ⊥) → mark-refusal (picture (state-of d l)) c ≡ bad-length)
-            → mark-text (marked (picture (state-of d l)) c) ≡ choose t (hundredths (marks.mark (picture (state-of d l)) c) ++ line-feed) (number bad-length)
+        go : (t : Bool) → eqb (length c) (picture-size d) ≡ t → length (picture (state-in d l)) ≡ picture-size d
+            → (length c ≡ length (picture (state-in d l)) → mark-refusal (picture (state-in d l)) c ≡ 0)
+            → ((length c ≡ length (picture (state-in d l)) → ⊥) → mark-refusal (picture (state-in d l)) c ≡ bad-length)
+            → mark-text (marked (picture (state-in d l)) c) ≡ choose t (hundredths (marks.mark (picture (state-in d l)) c) ++ line-feed) (number bad-length)
         go true e size right wrong = rw (right (eqb-true (length c) (picture-size d) e ∙ sym size))
         go false e size right wrong = rw (wrong (λ q. eqb-false (length c) (picture-size d) e (q ∙ size)))
 
@@ -322,22 +330,22 @@ module _ (n m : ℕ) (k : Context) (g : Kept n m k) (b : k .base .begun ≡ true
     alone zero = refl
     alone (suc z) = refl
 
-    to-view : response k view ≡ view-of.table (encode (state-of d l)) (last-touch (start d) l)
+    to-view : response k view ≡ view-of.table (encode (state-in d l)) (last-touch (start d) ms)
     unfolding response view-text last-touched
     to-view =
         let passes : test-refusal r j ≡ 0 =
         sym (alone (test-refusal r j)) ∙ test-number d good l r j shows j 0 ∙ rw (g .long, room, own-replays d good l r j shows) in
         said _ _
         ((λ i. view-text (shows .shows i .state) (touch-back (choose (eqb (passes i) 0) (last-touch (start (config-is d good l r j shows i)) (standing-is d good l r j shows i)) nothing) i)) ∙
-        rw (state-right d l good (shows .legal)))
+        rw (state-right d ms good legal))
 
     answers : Answers k d l
-    unfolding response plain-response shell.response moved undone turned
+    unfolding response plain-response shell.response moved went turned
     answers =
         record {
           to-move = λ p a o. said _ _ (to-answer (reference.move (step-of.move-of p a o)) _ (rw room));
           to-view = to-view;
-          to-back = said _ _ (ap number (numbered reference.back ∙ rw room));
+          to-goto = λ i. said _ _ (ap number (numbered (reference.goto i) ∙ rw room));
           to-show = to-show;
           to-turn = λ p. said _ _ (to-answer (reference.turn (k .scripts) p) _ (rw (room, order)));
           to-turns = to-turns;
@@ -348,14 +356,15 @@ module _ (n m : ℕ) (k : Context) (g : Kept n m k) (b : k .base .begun ≡ true
   lawful =
       record {
         config = d;
-        moves = l;
+        listed = l;
         right = good;
+        within = shows .within;
         legal = shows .legal;
         state = shows .shows;
-        standing = shows .whole;
+        whole = shows .whole;
         size = g .long;
         room = g .room;
-        safe = safe d l good (shows .legal);
+        safe = safe d ms good legal;
         replies = λ q. claim.reply-is d good l r j shows n (g .long) own q;
         answers = answers;
       }

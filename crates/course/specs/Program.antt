@@ -10,7 +10,7 @@ use Rattle.command.specs.Transcript.{Program}
 use Rattle.command.specs.Request.{Ask, plain, script, turn, turns, view, chart, mark, mark-own, help}
 use Rattle.command.specs.model.Request.{ask-of}
 use Rattle.command.specs.declared.Command.{Command}
-use Rattle.command.specs.declared.Command.the-variants.{Start, StartWith, Move, Back, Show, Unknown}
+use Rattle.command.specs.declared.Command.the-variants.{Start, StartWith, Move, Goto, Show, Unknown}
 use Rattle.state.specs.declared.Session.{Session}
 use Rattle.script.specs.Contract.{set-refusal, scripts-after}
 use Rattle.session.specs.Contract.{table, started, moved, last-touched}
@@ -43,7 +43,7 @@ unfoldable pub starts : Command → Bool
 starts (Start p t m b) = eqb (started (table p t m b 0) .refusal) 0
 starts (StartWith p t m b c) = eqb (started (table p t m b c) .refusal) 0
 starts (Move p a o) = false
-starts Back = false
+starts (Goto k) = false
 starts Show = false
 starts Unknown = false
 
@@ -66,7 +66,7 @@ module _ (k : Context) where
       cond begun (move-text (x .refusal) (touch-shown (x .touch))) question-mark
   plain-response (Start p t m b) = shell.response (Start p t m b) (k .base)
   plain-response (StartWith p t m b c) = shell.response (StartWith p t m b c) (k .base)
-  plain-response Back = shell.response Back (k .base)
+  plain-response (Goto i) = shell.response (Goto i) (k .base)
   plain-response Show = shell.response Show (k .base)
   plain-response Unknown = shell.response Unknown (k .base)
 

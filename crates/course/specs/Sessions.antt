@@ -6,15 +6,15 @@ use mathlib.Core.Bool.{true}
 use mathlib.Core.List.{List, [], _∷_, _++_}
 use mathlib.Core.Logic.{_⊎_}
 use mathlib.Core.Path.{_≡_}
-use lib.Dec.{eqb}
+use lib.Dec.{eqb, ltb}
 use lib.ListN.{length, take}
 use Rattle.command.specs.Printing.{hundredths, hex, line-feed}
 use Rattle.command.specs.Transcript.{Run}
 use Rattle.command.specs.Request.{plain, turn, turns, view, mark-own}
 use Rattle.command.specs.model.Request.{ask-of}
-use Rattle.command.specs.declared.Command.the-variants.{Move, Back, Show}
+use Rattle.command.specs.declared.Command.the-variants.{Move, Goto, Show}
 use Rattle.state.specs.Association.{encode, session-record}
-use Rattle.reference.specs.Refusal.{nothing-applied, bad-length, still-owner, refuse}
+use Rattle.reference.specs.Refusal.{no-step, bad-length, still-owner, refuse}
 use Rattle.reference.specs.Lists.{choose}
 use Rattle.reference.specs.State.{State}
 use Rattle.reference.specs.Start.{Config, config-cause, start}
@@ -25,7 +25,7 @@ use Rattle.reference.specs.Picture.{picture}
 use Rattle.reference.specs.Touch.{touch, last-touch}
 use Rattle.reference.specs.Script.{turned, turn-cause}
 use Rattle.reference.specs.Session as session
-use Rattle.reference.specs.Session.{Request, own, bytes, picture-size, state-of, answer}
+use Rattle.reference.specs.Session.{Request, own, bytes, picture-size, Listed, standing, state-in, answer}
 use Rattle.mark.specs.Mark.{mark}
 use Rattle.view.specs.Table.{table}
 use Rattle.claim.specs.Implementation.{contract}
@@ -52,36 +52,39 @@ pub record InSession (h : Held) : Type 0 where
   pub is-session : IsSession contract (opening contract (session.table config) first) events
   pub leads : held-at-end contract (session.table config) first events ≡ h
 
--- what lines are answered where the moves `ms` stand
-pub record Answers (k : Context) (c : Config) (ms : List step.Move) : Type 0 where
-  pub to-move : (p a o : ℕ) → let x = step.move-of p a o in response k (plain (Move p a o)) ≡ move-text (cause (state-of c ms) x) (touch (state-of c ms) x)
-  pub to-back : response k (plain Back) ≡ number (refuse (eqb (length ms) 0) nothing-applied 0)
-  pub to-show : response k (plain Show) ≡ hex (picture (state-of c ms)) ++ line-feed
-  pub to-turn : (p : ℕ) → response k (turn p) ≡ move-text (turn-cause c (k .scripts) ms p) (touch (state-of c ms) (turned c (k .scripts) ms p))
-  pub to-turns : (l ps : List ℕ) → ask-of l ≡ turns ps → response k (turns ps) ≡ class-lines c (k .scripts) ms ps
+-- what lines are answered where the moves of `l` are kept and its first stand
+pub record Answers (k : Context) (c : Config) (l : Listed) : Type 0 where
+  pub to-move : (p a o : ℕ) → let x = step.move-of p a o in response k (plain (Move p a o)) ≡ move-text (cause (state-in c l) x) (touch (state-in c l) x)
+  -- refused only where the step is not kept
+  pub to-goto : (i : ℕ) → response k (plain (Goto i)) ≡ number (refuse (ltb (length (l .kept)) i) no-step 0)
+  pub to-show : response k (plain Show) ≡ hex (picture (state-in c l)) ++ line-feed
+  pub to-turn : (p : ℕ) → response k (turn p) ≡ move-text (turn-cause c (k .scripts) (standing l) p) (touch (state-in c l) (turned c (k .scripts) (standing l) p))
+  pub to-turns : (i ps : List ℕ) → ask-of i ≡ turns ps → response k (turns ps) ≡ class-lines c (k .scripts) (standing l) ps
   -- the words that the last standing move touched are marked
-  pub to-view : response k view ≡ table (encode (state-of c ms)) (last-touch (start c) ms)
-  -- a candidate's picture against that of the moves' state; no refusal but that of its length
+  pub to-view : response k view ≡ table (encode (state-in c l)) (last-touch (start c) (standing l))
+  -- a candidate's picture against that of the standing moves' state; no refusal but that of its length
   pub to-mark : (b : List ℕ) → response k (mark-own b) ≡
-      choose (eqb (length b) (picture-size c)) (hundredths (mark (picture (state-of c ms)) b) ++ line-feed) (number bad-length)
+      choose (eqb (length b) (picture-size c)) (hundredths (mark (picture (state-in c l)) b) ++ line-feed) (number bad-length)
 
--- what is held is that of a start table and a list of moves, each of them accepted; `n` and `m` are the lengths of the journal and of the scripts at first
+-- what is held is that of a start table and a list of moves, each of them accepted, the first of which stand; `n` and `m` are the lengths of the journal and of
+-- the scripts at first
 pub record Lawful (n m : ℕ) (k : Context) : Type 0 where
   pub config : Config
-  pub moves : List step.Move
+  pub listed : Listed
   pub right : config-cause config ≡ 0
-  pub legal : accepted (start config) moves ≡ true
-  -- the record shows the moves' state, the journal begins with them, and the lengths stay;
-  pub state : k .base .session ≡ session-record (state-of config moves) (config .B)
-  pub standing : take (3 * length moves) (k .base .journal) ≡ bytes moves
+  pub within : listed .n ≤ length (listed .kept)
+  pub legal : accepted (start config) (listed .kept) ≡ true
+  -- the record shows the standing moves' state and how many are kept, the journal begins with these, and the lengths stay;
+  pub state : k .base .session ≡ session-record (state-in config listed) (config .B) (length (listed .kept))
+  pub whole : take (3 * length (listed .kept)) (k .base .journal) ≡ bytes (listed .kept)
   pub size : length (k .base .journal) ≡ n
   pub room : length (k .scripts) ≡ m
   -- the laws hold;
-  pub safe : Safe config moves
-  -- a move, a turn, a class or a step back is answered as in the reference session,
-  pub replies : (q : Request) → reply (gives contract (held-by k) (record { request = q; lent = own })) ≡ answer config n moves (record { request = q; lent = own })
+  pub safe : Safe config (standing listed)
+  -- a move, a turn, a class or a goto is answered as in the reference session,
+  pub replies : (q : Request) → reply (gives contract (held-by k) (record { request = q; lent = own })) ≡ answer config n listed (record { request = q; lent = own })
   -- and with room for 4,000 moves and 32 scripts by its cause alone
-  pub answers : 12000 ≤ n → m ≡ 416 → Answers k config moves
+  pub answers : 12000 ≤ n → m ≡ 416 → Answers k config listed
 
 -- whatever is in the journal and the scripts at first, and whatever lines come, once a start has been accepted:
 pub record Sessions : Type 0 where

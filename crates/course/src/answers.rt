@@ -61,7 +61,7 @@ fn begins(command: Command) -> bool
         Command::Start(p, t, m, b) => accepted(p, t, m, b, 0),
         Command::StartWith(p, t, m, b, stealing) => accepted(p, t, m, b, stealing),
         Command::Move(p, a, o) => false,
-        Command::Back => false,
+        Command::Goto(k) => false,
         Command::Show => false,
         Command::Unknown => false,
     }
@@ -131,7 +131,7 @@ fn plain_line(
             out,
         ),
         Command::Move(p, a, o) => move_line(shell, journal, p, a, o, out),
-        Command::Back => stepper_line(shell, journal, scripts, command, out),
+        Command::Goto(k) => stepper_line(shell, journal, scripts, command, out),
         Command::Show => stepper_line(shell, journal, scripts, command, out),
         Command::Unknown => stepper_line(shell, journal, scripts, command, out),
     }

@@ -16,10 +16,10 @@ use Rattle.reference.specs.Start.{Config, config-cause}
 use Rattle.reference.specs.Step.{run}
 use Rattle.reference.specs.Cause.{accepted}
 use Rattle.reference.specs.Script.{scripts-cause, class-answers, class-pictures}
-use Rattle.reference.specs.Session.{bytes, short, lacks-room}
+use Rattle.reference.specs.Session.{bytes, all-standing, short, lacks-room}
 use Rattle.session.specs.Contract.{config-of, or-later, standing}
 use Rattle.session.proofs.Answers.{or-passed}
-use Rattle.session.proofs.Holding.{Holds, config-is, standing-is}
+use Rattle.session.proofs.Holding.{Holds, holds-all, config-is, standing-is}
 use Rattle.session.proofs.Numbers.{lent-number, own-replays}
 use Rattle.turns.specs.Contract.{scripted, class-refusal, classed, answers-after, pictures-after}
 
@@ -59,25 +59,25 @@ module _ (c : Config) (x : List ℕ) (a : Answer) (e : a ≡ scripted c x) where
       r = a .session
 
       -- the record and any journal are those of the empty list
-      holds : Holds c [] r j
+      holds : Holds c (all-standing []) r j
       unfolding scripted run accepted bytes
-      holds = record { shows = ap (λ (b : Answer). b .session) e ∙ rw (sym cause-is ∙ none); legal = refl; whole = refl }
+      holds = holds-all c [] r j (ap (λ (b : Answer). b .session) e ∙ rw (sym cause-is ∙ none)) refl refl
 
       table-is : config-of r ≡ c
-      table-is = config-is c right [] r j holds
+      table-is = config-is c right (all-standing []) r j holds
 
       moves-are : standing r j ≡ []
-      moves-are = standing-is c right [] r j holds
+      moves-are = standing-is c right (all-standing []) r j holds
 
       -- 10 by the buffers is the only cause left
       number-is : class-refusal r j x ps answers pictures ≡ class-number c x ps answers pictures
       unfolding class-refusal class-number
       number-is =
-          lent-number c right [] r j holds (length j) _ ∙
+          lent-number c right (all-standing []) r j holds (length j) _ ∙
           (λ i.
           refuse (long i) 10
           (refuse (lacks-room (table-is i) (length ps) answers pictures) 10
-          (refuse (not (own-replays c right [] r j holds i)) 16 (scripts-cause (table-is i .T) x)))) ∙
+          (refuse (not (own-replays c right (all-standing []) r j holds i)) 16 (scripts-cause (table-is i .T) x)))) ∙
           rw (free .0, free .1)
 
       pub class-done : (d : Answer) (answers′ pictures′ : List ℕ) → d ≡ classed r j x ps answers pictures → answers′ ≡ answers-after r j x ps answers pictures →

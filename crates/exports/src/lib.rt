@@ -12,6 +12,7 @@ ghost use Rattle.exports.specs.Class.{class-number, class-answered, clas
 
 mod neighbours;
 mod replay;
+mod sitting;
 mod words;
 
 use crate::neighbours::independent;

@@ -1,17 +1,16 @@
--- Lists of moves: one after another, one more and one less.
+-- Lists of moves: one after another, one more, the first of a list.
 -- Assumes nothing.
-use Prim.Native.Nat.{_+_, _-_, _≤_}
+use Prim.Native.Nat.{ℕ, _+_, _≤_}
 use mathlib.Core.Bool.{true}
 use mathlib.Core.List.{List, [], _∷_, _++_}
-use mathlib.Core.Path.{_≡_, refl}
+use mathlib.Core.Path.{_≡_, refl, ap, _∙_}
 use native.Mathlib.Omega.{arith}
-use lib.ListN.{length}
+use lib.ListN.{length, take, drop, take-append-drop}
 use borrow.Author.Tests.{eq-eqb}
 use Rattle.reference.specs.State.{State}
 use Rattle.reference.specs.Step.{Move, next, run}
 use Rattle.reference.specs.Cause.{cause, accepted}
 use Rattle.reference.specs.Touch.{touch, last-touch}
-use Rattle.reference.specs.Session.{all-but-last}
 use Rattle.reference.proofs.Tests.{both}
 use Rattle.reference.proofs.Legal.{legal, accepted-cons}
 
@@ -59,19 +58,10 @@ accepted-snoc ms s a h k = accepted-append ms (a ∷ []) s h (accepted-more (run
 pub accepted-last : (ms : List Move) (s : State) (a : Move) → accepted s (ms ++ a ∷ []) ≡ true → (accepted s ms ≡ true) × (cause (run s ms) a ≡ 0)
 accepted-last ms s a h = let r = accepted-split ms (a ∷ []) s h in (r .0, accepted-cons (run s ms) a [] (r .1) .0)
 
-pub accepted-all-but-last : (ms : List Move) (s : State) → accepted s ms ≡ true → accepted s (all-but-last ms) ≡ true
-unfolding accepted all-but-last
-accepted-all-but-last [] s h = refl
-accepted-all-but-last (a ∷ []) s h = refl
-accepted-all-but-last (a ∷ b ∷ rest) s h =
-    let e = accepted-cons s a (b ∷ rest) h in
-    accepted-more s a (all-but-last (b ∷ rest)) (e .0) (accepted-all-but-last (b ∷ rest) (next s a) (e .1))
+-- ---- the first of a list
 
-pub length-all-but-last : (ms : List Move) → length (all-but-last ms) ≡ length ms - 1
-unfolding all-but-last
-length-all-but-last [] = refl
-length-all-but-last (a ∷ []) = refl
-length-all-but-last (a ∷ b ∷ rest) = omega (arith, length-all-but-last (b ∷ rest))
+pub accepted-take : (n : ℕ) (ms : List Move) (s : State) → accepted s ms ≡ true → accepted s (take n ms) ≡ true
+accepted-take n ms s h = accepted-split (take n ms) (drop n ms) s (ap (accepted s) (take-append-drop n ms) ∙ h) .0
 
 -- no more than 4,000 moves stand
 pub accepted-length : (ms : List Move) (s : State) → s .applied ≤ 4000 → accepted s ms ≡ true → s .applied + length ms ≤ 4000

@@ -35,9 +35,9 @@ not-new = 7
 abbrev pub full : ℕ
 full = 8
 
--- a step back at the start
-abbrev pub nothing-applied : ℕ
-nothing-applied = 9
+-- a step that is not kept
+abbrev pub no-step : ℕ
+no-step = 9
 
 -- a journal or another buffer without enough room
 abbrev pub too-short : ℕ

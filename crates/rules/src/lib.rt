@@ -42,11 +42,13 @@ pub fn state_ok(s: State) -> bool
     (broken == 0) & zero::zero_past(s)
 }
 
-// And B is 1 to T.
+// And B is 1 to T, and the number kept not below the standing moves nor above 4,000.
 pub fn session_ok(r: Session) -> bool
     ensures { λ b. ⌜ b ≡ session-ok r ⌝ }
 {
     let state = r.state;
     let t = state.t;
-    state_ok(state) & ((1 <= r.initial) & (r.initial <= t))
+    let created = (1 <= r.initial) & (r.initial <= t);
+    let kept = (state.applied <= r.kept) & (r.kept <= 4000);
+    state_ok(state) & created & kept
 }

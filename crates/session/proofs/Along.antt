@@ -3,7 +3,7 @@
 use Prim.Native.Nat.{ℕ, _≤_}
 use mathlib.Core.Bool.{Bool, true, false}
 use mathlib.Core.List.{List, [], _∷_, _++_}
-use mathlib.Core.Path.{_≡_, refl, _∙_, subst, transport}
+use mathlib.Core.Path.{_≡_, refl, sym, ap, _∙_, subst, transport}
 use native.Mathlib.Omega.{arith}
 use lib.Dec.{eqb}
 use lib.ListN.{length}
@@ -15,11 +15,12 @@ use Rattle.reference.specs.State.{State}
 use Rattle.reference.specs.Start.{Config, config-cause, start}
 use Rattle.reference.specs.Step.{Move, next, run}
 use Rattle.reference.specs.Cause.{cause, accepted}
-use Rattle.reference.specs.Session.{bytes, state-of}
+use Rattle.reference.specs.Session.{bytes, all-standing, state-of, state-in}
 use Rattle.reference.proofs.Moves.{run-snoc}
-use Rattle.session.specs.Contract.{started, moved, journal-after}
+use Rattle.reference.proofs.Laws.{applied-is}
+use Rattle.session.specs.Contract.{started, standing, moved, journal-after}
 use Rattle.session.specs.Worked.{refusals, record-after}
-use Rattle.session.proofs.Holding.{Holds, Leaves, config-is, standing-is, move-agrees, move-leaves}
+use Rattle.session.proofs.Holding.{Holds, Leaves, take-all, holds-all, config-is, standing-is, move-agrees, move-leaves}
 use Rattle.session.proofs.Numbers.{own-replays, move-number}
 
 -- the causes of moves made one after the other from s, and the state after them: a refused one leaves it
@@ -33,24 +34,30 @@ state-after s (a ∷ rest) = state-after (choose (eqb (cause s a) 0) (next s a) 
 
 module _ (c : Config) (right : config-cause c ≡ 0) where
   abbrev Along : State → Session → List ℕ → List Move → Type 0
-  Along s r j bs = (refusals r j bs ≡ causes s bs) × (record-after r j bs ≡ session-record (state-after s bs) (c .B))
+  Along s r j bs = (refusals r j bs ≡ causes s bs) × (record-after r j bs ≡ session-record (state-after s bs) (c .B) (state-after s bs .applied))
 
-  module _ (ms : List Move) (r : Session) (j : List ℕ) (h : Holds c ms r j) (size : 12000 ≤ length j) (a : Move) where
+  stands : (ms : List Move) → state-in c (all-standing ms) ≡ state-of c ms
+  stands ms = ap (state-of c) (take-all ms)
+
+  module _ (ms : List Move) (r : Session) (j : List ℕ) (h : Holds c (all-standing ms) r j) (size : 12000 ≤ length j) (a : Move) where
     number : moved r j a .refusal ≡ cause (state-of c ms) a
     unfolding moved
-    number = move-number c right ms r j h j a ∙ rw (le-ltb (length j) 12000 size, own-replays c right ms r j h)
+    number =
+        move-number c right (all-standing ms) r j h j a ∙
+        rw (le-ltb (length j) 12000 size, own-replays c right (all-standing ms) r j h) (ap (λ (s : State). cause s a) (stands ms))
 
-    leaves : moved r j a .refusal ≡ 0 → Leaves c (ms ++ a ∷ []) j (moved r j a .session) (journal-after r j a)
+    leaves : moved r j a .refusal ≡ 0 → Leaves c (all-standing (ms ++ a ∷ [])) j (moved r j a .session) (journal-after r j a)
     unfolding moved
     leaves e =
-        transport (λ i. Leaves (config-is c right ms r j h i) (standing-is c right ms r j h i ++ a ∷ []) j (moved r j a .session) (journal-after r j a))
+        let same : standing r j ≡ ms = standing-is c right (all-standing ms) r j h ∙ take-all ms in
+        transport (λ i. Leaves (config-is c right (all-standing ms) r j h i) (all-standing (same i ++ a ∷ [])) j (moved r j a .session) (journal-after r j a))
         (move-leaves r j (move-agrees r j a e) a e)
 
     kept : eqb (cause (state-of c ms) a) 0 ≡ false → (moved r j a .session ≡ r) × (journal-after r j a ≡ j)
     unfolding moved journal-after
     kept e = rw (number, e) (refl, refl)
 
-    after : (bs : List Move) → ((ns : List Move) (x : Session) (k : List ℕ) → Holds c ns x k → 12000 ≤ length k → Along (state-of c ns) x k bs) →
+    after : (bs : List Move) → ((ns : List Move) (x : Session) (k : List ℕ) → Holds c (all-standing ns) x k → 12000 ≤ length k → Along (state-of c ns) x k bs) →
         Along (choose (eqb (cause (state-of c ms) a) 0) (next (state-of c ms) a) (state-of c ms)) (moved r j a .session) (journal-after r j a) bs
     after bs on = by (eqb (cause (state-of c ms) a) 0) refl
       where
@@ -61,9 +68,9 @@ module _ (c : Config) (right : config-cause c ≡ 0) where
             (on (ms ++ a ∷ []) (moved r j a .session) (journal-after r j a) (w .0) (omega (arith, w .1 .size)))
         by false e = rw (kept e .0, kept e .1) (on ms r j h size)
 
-  along : (bs ms : List Move) (r : Session) (j : List ℕ) → Holds c ms r j → 12000 ≤ length j → Along (state-of c ms) r j bs
+  along : (bs ms : List Move) (r : Session) (j : List ℕ) → Holds c (all-standing ms) r j → 12000 ≤ length j → Along (state-of c ms) r j bs
   unfolding refusals record-after causes state-after
-  along [] ms r j h size = (refl, h .shows)
+  along [] ms r j h size = (refl, h .shows ∙ (λ i. session-record (stands ms i) (c .B) (sym (applied-is c ms) i)))
   along (a ∷ bs) ms r j h size =
       let o = after ms r j h size a bs (along bs) in
       (λ i. number ms r j h size a i ∷ o .0 i, o .1)
@@ -71,4 +78,4 @@ module _ (c : Config) (right : config-cause c ≡ 0) where
   -- from a start
   pub from-start : (j : List ℕ) → 12000 ≤ length j → (bs : List Move) → Along (start c) (started c .session) j bs
   unfolding started run accepted bytes
-  from-start j size bs = along bs [] (started c .session) j (record { shows = rw right; legal = refl; whole = refl }) size
+  from-start j size bs = along bs [] (started c .session) j (holds-all c [] (started c .session) j (rw right) refl refl) size

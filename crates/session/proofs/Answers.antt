@@ -7,12 +7,12 @@ use mathlib.Core.Path.{_≡_, refl, ap, _∙_}
 use native.Mathlib.Omega.{arith}
 use lib.Dec.{eqb, leb}
 use lib.ListN.{length, take}
-use borrow.Author.Tests.{lt-ltb, le-ltb, ltb-false, eqb-true, ne-eqb, not-false}
+use borrow.Author.Tests.{lt-ltb, le-ltb, ltb-false, eqb-true, eq-eqb, ne-eqb, not-false}
 use Rattle.state.specs.declared.State.{State as Record}
 use Rattle.state.specs.declared.Session.{Session}
 use Rattle.session.specs.declared.MoveAnswer.{MoveAnswer}
 use Rattle.state.specs.Record.{zero-session, Sized}
-use Rattle.state.specs.Association.{encode, decode}
+use Rattle.state.specs.Association.{encode, decode, session-record}
 use Rattle.state.specs.Rules.{session-ok}
 use Rattle.state.specs.model.Access.{start-record}
 use Rattle.state.proofs.Started.{start-shown}
@@ -31,7 +31,7 @@ use Rattle.touch.specs.Association.{touch-record}
 use Rattle.touch.specs.model.Made.{made-of}
 use Rattle.touch.proofs.Agrees.{made-valid}
 use Rattle.session.specs.Contract.{shown, started, or-later, lent-refusal, matches, test-refusal, move-refusal, moved, written-at, journal-after, front}
-use Rattle.session.specs.model.Replay.{stored}
+use Rattle.session.specs.model.Replay.{stored, continued}
 use Rattle.session.proofs.Standing.{sets-written}
 
 -- ---- start
@@ -40,7 +40,7 @@ abbrev ranges-ok : Config → Bool
 ranges-ok c = in-range 1 8 (c .P) && in-range 1 32 (c .T) && in-range 1 8 (c .M) && in-range 1 (c .T) (c .B) && leb (c .stealing) 1
 
 pub started-taken : (c : Config) → ranges-ok c ≡ true →
-    record { refusal = 0; session = record { state = start-record (c .P) (c .T) (c .M) (c .B) (c .stealing); initial = c .B } } ≡ started c
+    record { refusal = 0; session = record { state = start-record (c .P) (c .T) (c .M) (c .B) (c .stealing); initial = c .B; kept = 0 } } ≡ started c
 unfolding started config-cause
 started-taken c e =
     let n : config-cause c ≡ 0 = rw e in
@@ -59,6 +59,18 @@ or-passed (suc x) y e = absurd (omega arith)
 pub or-first : (n m k : ℕ) → n ≡ m → (n ≡ 0 → ⊥) → n ≡ or-later m k
 or-first zero m k e h = absurd (h refl)
 or-first (suc n) m k e h = rw (← e)
+
+-- ---- the number kept: a move made drops what is kept beyond it, a refused one nothing
+
+pub continued-same : (r : Session) → continued r (r .state) ≡ r
+continued-same r = rw (eq-eqb (r .state .applied) (r .state .applied) refl)
+
+pub continued-more : (r : Session) (s : Record) → r .state .applied < s .applied → continued r s ≡ record { state = s; initial = r .initial; kept = s .applied }
+continued-more r s h = rw (ne-eqb (s .applied) (r .state .applied) (λ e. absurd (omega arith)))
+
+continued-next : (r : Session) (a : Move) → continued r (encode (next (shown r) a)) ≡ session-record (next (shown r) a) (r .initial) (suc (shown r .applied))
+unfolding encode decode next
+continued-next r a = continued-more r (encode (next (shown r) a)) (omega arith)
 
 -- ---- the first causes of a call that is lent a journal
 
@@ -117,18 +129,18 @@ module _ (r : Session) (j : List ℕ) (a : Move) where
     number-of = rw free
 
     -- 2, 3, 8, 4 or 5, 6, 7 or 21, 15, or none
-    pub made-answer : record { refusal = made .refusal; session = record { state = made .state; initial = r .initial }; touch = made .touch } ≡ moved r j a
+    pub made-answer : record { refusal = made .refusal; session = continued r (made .state); touch = made .touch } ≡ moved r j a
     unfolding moved
     made-answer =
-        ap (λ (x : Made). record { refusal = x .refusal; session = record { state = x .state; initial = r .initial }; touch = x .touch }) made-is ∙
-        rw (← number-of) (by (refusal (shown r) a) (eqb (refusal (shown r) a) 0) (encode (next (shown r) a)) (touch (shown r) a))
+        ap (λ (x : Made). record { refusal = x .refusal; session = continued r (x .state); touch = x .touch }) made-is ∙
+        rw (← number-of) (by (refusal (shown r) a) (eqb (refusal (shown r) a) 0) (touch (shown r) a))
       where
-        by : (n : ℕ) (b : Bool) (s : Record) (t : Touch) →
+        by : (n : ℕ) (b : Bool) (t : Touch) →
             _≡_ {A = MoveAnswer}
-            (record { refusal = n; session = record { state = choose b s (r .state); initial = r .initial }; touch = touch-record (choose b t nothing) })
-            (record { refusal = n; session = choose b (record { state = s; initial = r .initial }) r; touch = touch-record (choose b t nothing) })
-        by n true s t = refl
-        by n false s t = refl
+            (record { refusal = n; session = continued r (choose b (encode (next (shown r) a)) (r .state)); touch = touch-record (choose b t nothing) })
+            (record { refusal = n; session = choose b (session-record (next (shown r) a) (r .initial) (suc (shown r .applied))) r; touch = touch-record (choose b t nothing) })
+        by n true t = ap (λ (s : Session). record { refusal = n; session = s; touch = touch-record t }) (continued-next r a)
+        by n false t = ap (λ (s : Session). record { refusal = n; session = s; touch = touch-record nothing }) (continued-same r)
 
     pub made-journal : choose (eqb (made .refusal) 0) (stored j (r .state .applied) a) j ≡ journal-after r j a
     unfolding journal-after decode

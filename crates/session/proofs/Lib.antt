@@ -4,7 +4,8 @@ pub mod Answers
 pub mod Reached
 pub mod Replayed
 pub mod Counted
-pub mod Undone
+pub mod Found
+pub mod Went
 pub mod Testing
 pub mod Pictures
 pub mod Shown

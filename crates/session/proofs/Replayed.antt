@@ -22,7 +22,7 @@ use Rattle.session.proofs.Reached.{moved-in, moved-reached}
 use Rattle.reference.specs.State.{State}
 use Rattle.reference.specs.Step.{Move, next, run}
 use Rattle.reference.specs.Cause.{cause, accepted}
-use Rattle.reference.specs.Session.{moves, all-but-last}
+use Rattle.reference.specs.Session.{moves}
 
 -- move i + 1 of a journal
 abbrev pub move-at : List ℕ → ℕ → Move
@@ -56,16 +56,6 @@ moves-on (suc n) zero j h = (moves n (drop 3 j), refl)
 moves-on (suc n) (suc i) j h =
     let r = moves-on n i (drop 3 j) (omega arith) in
     (r .0, ap (λ (l : List Move). move-at j 0 ∷ l) (r .1) ∙ ap (λ (a : Move). move-at j 0 ∷ moves i (drop 3 j) ++ a ∷ r .0) (move-later j i))
-
-snoc-but-last : (ms : List Move) (a : Move) → all-but-last (ms ++ a ∷ []) ≡ ms
-unfolding all-but-last
-snoc-but-last [] a = refl
-snoc-but-last (b ∷ []) a = refl
-snoc-but-last (b ∷ d ∷ ms) a = ap (λ (l : List Move). b ∷ l) (snoc-but-last (d ∷ ms) a)
-
--- all but the last of them
-pub moves-but-last : (n : ℕ) (j : List ℕ) → all-but-last (moves (n + 1) j) ≡ moves n j
-moves-but-last n j = ap all-but-last (moves-more n j) ∙ snoc-but-last (moves n j) (move-at j n)
 
 -- a list with a refused move in it is not accepted
 pub refused-on : (ms : List Move) (s : State) (a : Move) (rest : List Move) → (cause (run s ms) a ≡ 0 → ⊥) → accepted s (ms ++ a ∷ rest) ≡ false

@@ -18,7 +18,7 @@ use Rattle.reference.specs.Lists.{with-front}
 use Rattle.reference.specs.Session.{state-of, picture-size}
 use Rattle.reference.specs.Safe.{In}
 use Rattle.reference.proofs.Start.{ranges}
-use Rattle.reference.proofs.Laws.{sized}
+use Rattle.reference.proofs.Laws.{sized, applied-is}
 use Rattle.shown.proofs.Decode.{decode-encode, encode-ok}
 use Rattle.shown.proofs.Reached.{reached-allowed}
 use Rattle.shown.proofs.Unique.{session-record-ok}
@@ -29,9 +29,10 @@ module _ (c : Config) (ms : List Move) (right : config-cause c ≡ 0) (ok : acce
   allowed : Allowed (state-of c ms)
   allowed = reached-allowed c right ms ok
 
-  pub record-right : session-ok (session-record (state-of c ms) (c .B)) ≡ true
-  record-right =
-      session-record-ok (state-of c ms) (c .B) allowed (subst (λ (n : ℕ). In n (c .B)) (sym (sized c ms .1)) (ranges c right .created))
+  pub record-right : (k : ℕ) → length ms ≤ k → k ≤ 4000 → session-ok (session-record (state-of c ms) (c .B) k) ≡ true
+  record-right k low high =
+      session-record-ok (state-of c ms) (c .B) k allowed (subst (λ (n : ℕ). In n (c .B)) (sym (sized c ms .1)) (ranges c right .created))
+      (omega (arith, applied-is c ms)) high
 
   pub state-right : state-ok (encode (state-of c ms)) ≡ true
   state-right = encode-ok (state-of c ms) allowed

@@ -1,15 +1,18 @@
 -- Moves in a journal: reading them back, and writing one more.
 -- Assumes nothing.
 use Prim.Native.Nat.{ℕ, zero, suc, _+_, _*_, _-_, _≤_}
+use mathlib.Core.Bool.{true}
 use mathlib.Core.List.{List, [], _∷_, _++_}
 use mathlib.Core.Path.{_≡_, refl, sym, ap, _∙_, subst}
 use native.Mathlib.Omega.{arith}
 use native.Mathlib.Numerals.{add-one, add-two}
-use lib.ListN.{length, take, drop, set, length-append, length-drop, take-append-drop}
-use lib.Seq.{sets-eq, take-at, drop-at, take-take, drop-drop, length-take-le}
-use Rattle.reference.specs.Step.{Move}
-use Rattle.reference.specs.Session.{bytes, moves, all-but-last}
-use Rattle.reference.proofs.Moves.{length-all-but-last}
+use lib.ListN.{length, getD, take, drop, set, length-append, length-drop, take-append-drop}
+use lib.Seq.{sets-eq, take-at, drop-at, drop-drop, length-take-le}
+use Rattle.reference.specs.State.{State}
+use Rattle.reference.specs.Step.{Move, move-of}
+use Rattle.reference.specs.Cause.{accepted}
+use Rattle.reference.specs.Session.{bytes, moves}
+use Rattle.reference.proofs.Moves.{accepted-take}
 use Rattle.session.specs.Contract.{written-at}
 use Rattle.session.specs.model.Replay.{stored}
 
@@ -46,22 +49,15 @@ bytes-moves (suc n) (a ∷ b ∷ c ∷ j) h =
     let triple : 3 * suc n ≡ suc (suc (suc (3 * n))) = omega arith in
     ap (λ (k : ℕ). take k (a ∷ b ∷ c ∷ j)) triple ∙ ap (λ (l : List ℕ). a ∷ b ∷ c ∷ l) (bytes-moves n j (omega arith))
 
--- a list that is not empty is all but its last, then its last
-pub last-apart : (a : Move) (ms : List Move) → (l : Move) × (a ∷ ms ≡ all-but-last (a ∷ ms) ++ l ∷ [])
-unfolding all-but-last
-last-apart a [] = (a, refl)
-last-apart a (b ∷ ms) = let r = last-apart b ms in (r .0, ap (λ (q : List Move). a ∷ q) (r .1))
+-- the first of a journal's moves
+pub moves-take : (n k : ℕ) (j : List ℕ) → n ≤ k → take n (moves k j) ≡ moves n j
+unfolding moves
+moves-take zero k j h = refl
+moves-take (suc n) zero j h = absurd (omega arith)
+moves-take (suc n) (suc k) j h = ap (λ (l : List Move). move-of (getD j 0 0) (getD j 1 0) (getD j 2 0) ∷ l) (moves-take n k (drop 3 j) (omega arith))
 
--- a journal that begins with a list's moves begins with all but the last of them
-pub bytes-front : (ms : List Move) (j : List ℕ) → take (3 * length ms) j ≡ bytes ms → take (3 * length (all-but-last ms)) j ≡ bytes (all-but-last ms)
-unfolding all-but-last
-bytes-front [] j e = e
-bytes-front (a ∷ ms) j e =
-    let f : List Move = all-but-last (a ∷ ms) in
-    let r = last-apart a ms in
-    sym (take-take (3 * length f) (3 * length (a ∷ ms)) j (omega (arith, length-all-but-last (a ∷ ms)))) ∙
-    ap (take (3 * length f)) (e ∙ ap bytes (r .1) ∙ bytes-snoc f (r .0)) ∙
-    take-at (bytes f) (bytes (r .0 ∷ [])) (3 * length f) (length-bytes f)
+pub accepted-within : (n k : ℕ) (j : List ℕ) (s : State) → n ≤ k → accepted s (moves k j) ≡ true → accepted s (moves n j) ≡ true
+accepted-within n k j s h e = subst (λ (l : List Move). accepted s l ≡ true) (moves-take n k j h) (accepted-take n (moves k j) s e)
 
 -- ---- a move written into a journal
 

@@ -13,14 +13,15 @@ use Rattle.reference.specs.Refusal.{refuse}
 use Rattle.reference.specs.Lists.{if-zero, tabulate}
 use Rattle.reference.specs.Start.{start}
 use Rattle.reference.specs.Cause.{accepted}
-use Rattle.reference.specs.Session.{replays}
+use Rattle.reference.specs.Session.{moves, replays}
 use Rattle.reference.proofs.Tests.{both-left}
 use Rattle.session.specs.Contract.{config-of, lent-refusal, standing, matches, test-refusal, progress-in, tested}
 use Rattle.session.specs.model.Replay.{counted-in}
 use Rattle.state.proofs.Branch.{if-some}
 use Rattle.session.proofs.Answers.{or-first, lent-passed, test-passed}
 use Rattle.session.proofs.Counted.{calls-of, counted-is}
-use Rattle.session.proofs.Undone.{config-right, applied-most}
+use Rattle.session.proofs.Found.{config-right, applied-most, kept-range}
+use Rattle.session.proofs.Standing.{accepted-within}
 
 module _ (r : Session) (j : List ℕ) where
   -- what is counted in the end, from the list as it was
@@ -58,8 +59,10 @@ module _ (r : Session) (j : List ℕ) where
     free = test-passed r j (sym e ∙ z) .0
 
     legal : accepted (start (config-of r)) (standing r j) ≡ true
-    unfolding matches replays
-    legal = both-left (accepted (start (config-of r)) (standing r j)) _ (test-passed r j (sym e ∙ z) .1)
+    unfolding matches replays decode
+    legal =
+        accepted-within (r .state .applied) (r .kept) j (start (config-of r)) (kept-range r (lent-passed r (length j) free .1) .0)
+        (both-left (accepted (start (config-of r)) (moves (r .kept) j)) _ (test-passed r j (sym e ∙ z) .1))
 
     counted-all : counted-in r j (replicate 33 0) ≡ calls-of (config-of r) (standing r j)
     unfolding decode

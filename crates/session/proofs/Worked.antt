@@ -32,14 +32,14 @@ module _ (c : Config) (right : config-cause c ≡ 0) (ms : List Move) where
   numbers : refusals (started c .session) journal ms ≡ causes (start c) ms
   numbers = from-start c right journal long ms .0
 
-  reached : record-after (started c .session) journal ms ≡ session-record (state-after (start c) ms) (c .B)
+  reached : record-after (started c .session) journal ms ≡ session-record (state-after (start c) ms) (c .B) (state-after (start c) ms .applied)
   reached = from-start c right journal long ms .1
 
   reaches : (Q : State → Type 0) → causes (start c) ms ≡ replicate (length ms) 0 → Q (encode (state-after (start c) ms)) → Reaches c ms Q
   unfolding started
   reaches Q e q = record { start = right; moves = numbers ∙ e; end = subst Q (sym (ap (λ (r : Session). r .state) reached)) q }
 
-  unrelated : (a : Move) → moved (session-record (state-after (start c) ms) (c .B)) journal a .refusal ≡ 16 → without-journal c ms a ≡ 16
+  unrelated : (a : Move) → moved (session-record (state-after (start c) ms) (c .B) (state-after (start c) ms .applied)) journal a .refusal ≡ 16 → without-journal c ms a ≡ 16
   unrelated a e = ap (λ (r : Session). moved r journal a .refusal) reached ∙ e
 
 -- what the rows compute with: to unfold this is to unfold all that its line names
@@ -113,7 +113,7 @@ given : (ms : List Move) → answers ms ≡ causes (start (config 2 2 8 2)) ms
 unfolding config-cause
 given ms = numbers (config 2 2 8 2) refl ms
 
-journal-refused : (a : Move) → moved (session-record left-owner 1) (with-front journal (bytes exited)) a .refusal ≡ 16
+journal-refused : (a : Move) → moved (session-record left-owner 1 3) (with-front journal (bytes exited)) a .refusal ≡ 16
 unfolding testing bytes
 journal-refused a = refl
 

@@ -1,9 +1,9 @@
--- What start, the journal's test, move, step back, the last move's words and the journal's front answer, on all inputs: the equations that their contracts state.
+-- What start, the journal's test, move, going, the last move's words and the journal's front answer, on all inputs: the equations that their contracts state.
 -- Assumes nothing.
-use Prim.Native.Nat.{ℕ, _+_, _*_}
+use Prim.Native.Nat.{ℕ, suc, _+_, _*_}
 use mathlib.Core.Bool.{Bool, not}
 use mathlib.Core.List.{List, [], _∷_, _++_}
-use lib.Dec.{eqb}
+use lib.Dec.{eqb, ltb}
 use lib.ListN.{length, take, drop, replicate}
 use Rattle.session.specs.declared.Answer.{Answer}
 use Rattle.session.specs.declared.MoveAnswer.{MoveAnswer}
@@ -14,7 +14,7 @@ use Rattle.state.specs.Association.{decode, session-record}
 use Rattle.state.specs.Rules.{session-ok}
 use Rattle.touch.specs.declared.Touch as code
 use Rattle.touch.specs.Association.{touch-record}
-use Rattle.reference.specs.Refusal.{too-short, bad-record, nothing-applied, bad-journal, refuse}
+use Rattle.reference.specs.Refusal.{too-short, bad-record, no-step, bad-journal, refuse}
 use Rattle.reference.specs.Lists.{choose, if-zero, tabulate}
 use Rattle.reference.specs.State.{State}
 use Rattle.reference.specs.Start.{Config, config-cause, start}
@@ -23,7 +23,7 @@ use Rattle.reference.specs.Cause.{cause}
 use Rattle.reference.specs.Touch.{Touch, nothing, touch, last-touch}
 use Rattle.reference.specs.Break.{step-breaks}
 use Rattle.reference.specs.Script.{progress}
-use Rattle.reference.specs.Session.{bytes, moves, all-but-last, short, replays}
+use Rattle.reference.specs.Session.{bytes, moves, short, replays}
 
 -- the state that a record shows, and the start table read off it
 abbrev pub shown : Session → State
@@ -43,7 +43,7 @@ answered n made other = record { refusal = n; session = choose (eqb n 0) made ot
 -- ---- start: 1; refused, an all-zero record
 
 unfoldable pub started : Config → Answer
-started c = answered (config-cause c) (session-record (start c) (c .B)) zero-session
+started c = answered (config-cause c) (session-record (start c) (c .B) 0) zero-session
 
 -- a cause that is there, else the later one
 abbrev pub or-later : ℕ → ℕ → ℕ
@@ -59,9 +59,9 @@ lent-refusal r n = refuse (short n) too-short (refuse (not (session-ok r)) bad-r
 abbrev pub standing : Session → List ℕ → List Move
 standing r j = moves (shown r .applied) j
 
--- they give the record
+-- they give the record, and the kept ones behind them are accepted
 unfoldable pub matches : Session → List ℕ → Bool
-matches r j = replays (start (config-of r)) (standing r j) (shown r)
+matches r j = replays (start (config-of r)) (r .kept) (shown r .applied) j (shown r)
 
 -- the first causes of a move and of a turn
 unfoldable pub test-refusal : Session → List ℕ → ℕ
@@ -83,8 +83,9 @@ move-refusal r j a = or-later (test-refusal r j) (or-later (cause (shown r) a) (
 abbrev pub move-answered : ℕ → Session → Session → Touch → MoveAnswer
 move-answered n made other t = record { refusal = n; session = choose (eqb n 0) made other; touch = touch-record (choose (eqb n 0) t nothing) }
 
+-- the moves kept are then those that stand
 unfoldable pub moved : Session → List ℕ → Move → MoveAnswer
-moved r j a = move-answered (move-refusal r j a) (session-record (next (shown r) a) (r .initial)) r (touch (shown r) a)
+moved r j a = move-answered (move-refusal r j a) (session-record (next (shown r) a) (r .initial) (suc (shown r .applied))) r (touch (shown r) a)
 
 -- the journal with the move at 3n, every other byte as it was
 unfoldable pub written-at : ℕ → Move → List ℕ → List ℕ
@@ -93,16 +94,17 @@ written-at n a j = take (3 * n) j ++ bytes (a ∷ []) ++ drop (3 * n + 3) j
 unfoldable pub journal-after : Session → List ℕ → Move → List ℕ
 journal-after r j a = choose (eqb (move-refusal r j a) 0) (written-at (shown r .applied) a j) j
 
--- ---- step back: 10, 15, 9, 16; refused, the record handed in. The journal is left.
+-- ---- going to step k: 10, 15, 9, 16; refused, the record handed in. The journal is left.
 
-unfoldable pub undo-refusal : Session → List ℕ → ℕ
-undo-refusal r j =
+unfoldable pub goto-refusal : Session → List ℕ → ℕ → ℕ
+goto-refusal r j k =
     or-later (lent-refusal r (length j))
-    (refuse (eqb (shown r .applied) 0) nothing-applied
+    (refuse (ltb (r .kept) k) no-step
     (refuse (not (matches r j)) bad-journal 0))
 
-unfoldable pub undone : Session → List ℕ → Answer
-undone r j = answered (undo-refusal r j) (session-record (run (start (config-of r)) (all-but-last (standing r j))) (r .initial)) r
+-- the state of the first k kept moves; as many are kept as before
+unfoldable pub went : Session → List ℕ → ℕ → Answer
+went r j k = answered (goto-refusal r j k) (session-record (run (start (config-of r)) (moves k j)) (r .initial) (r .kept)) r
 
 -- ---- what the last standing move touched: nothing where the journal's test refuses or no move stands
 

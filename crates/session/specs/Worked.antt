@@ -180,7 +180,7 @@ pub record OwnerExits : Type 0 where
   -- what an owner's exit would lead to: by history the mutex has an owner that has exited,
   pub law-broken : Owns (config 1 1 1 1) exited 1 1 × (ended (config 1 1 1 1) exited 1 ≡ true)
   -- so where an old session has one, every move is refused by 16, lent the journal that led there;
-  pub journal-refused : (a : Move) → moved (session-record left-owner 1) (with-front journal (bytes exited)) a .refusal ≡ 16
+  pub journal-refused : (a : Move) → moved (session-record left-owner 1 3) (with-front journal (bytes exited)) a .refusal ≡ 16
   -- its picture, in which thread 1 has exited and owns the mutex, reads as ever
   pub pictured : picture left-owner ≡ 1 ∷ 1 ∷ 1 ∷ 0 ∷ 0 ∷ 3 ∷ 0 ∷ 0 ∷ 1 ∷ 0 ∷ 0 ∷ 0 ∷ 0 ∷ 0 ∷ 0 ∷ 0 ∷ 0 ∷ 0 ∷ 0 ∷ 0 ∷ 1 ∷ 0 ∷ 1 ∷ 0 ∷ 0 ∷ 0 ∷ 0 ∷ 0 ∷ 5 ∷ 0 ∷ 0 ∷ 0 ∷ []
   pub read-back : read (picture left-owner) ≡ record { refusal = 0; state = encode left-owner }

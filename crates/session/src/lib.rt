@@ -1,4 +1,4 @@
-// Sessions: start, move, step back, what the last move touched, the journal's front and its test.
+// Sessions: start, move, going to a step, what the last move touched, the journal's front and its test.
 pub mod journal;
 mod replay;
 mod same;
@@ -11,8 +11,8 @@ ghost use lib.Dec.{leb};
 ghost use lib.ListN.{length};
 ghost use Rattle.touch.specs.Association.{touch-record};
 ghost use Rattle.reference.specs.Touch.{nothing};
-ghost use Rattle.session.specs.Contract.{table, started, lent-refusal, test-refusal, tested, moved, journal-after, undone, last-touched, front};
-ghost use Rattle.session.specs.model.Replay.{counted-in};
+ghost use Rattle.session.specs.Contract.{table, started, lent-refusal, test-refusal, tested, moved, journal-after, went, last-touched, front};
+ghost use Rattle.session.specs.model.Replay.{counted-in, continued};
 use crate::journal::keep_move;
 use crate::replay::replayed;
 use rules::session_ok;
@@ -23,7 +23,7 @@ use state::range::in_range;
 use state::refusal::Refusal;
 use touch::Touch;
 
-// What a start, a step back or a class answers: the number that refuses it, or 0, and the session's record.
+// What a start, a going or a class answers: the number that refuses it, or 0, and the session's record.
 pub struct Answer {
     pub refusal: u8,
     pub session: Session,
@@ -57,13 +57,21 @@ pub fn start(p: u8, t: u8, m: u8, b: u8, stealing: u8) -> Answer
         let state = State::start(p, t, m, b, stealing);
         return Answer {
             refusal: 0,
-            session: Session { state, initial: b },
+            session: Session {
+                state,
+                initial: b,
+                kept: 0,
+            },
         };
     }
     let state = State::zero();
     Answer {
         refusal: Refusal::BAD_CONFIG,
-        session: Session { state, initial: 0 },
+        session: Session {
+            state,
+            initial: 0,
+            kept: 0,
+        },
     }
 }
 
@@ -78,8 +86,8 @@ pub fn lent(session: Session, n: usize) -> u8
     if ok { 0 } else { Refusal::BAD_RECORD }
 }
 
-// The journal's test: whether its standing moves, made from the start table read off the record, give the record. Each thread's calls among the moves made are
-// added to its count; a list of one has no thread's count.
+// The journal's test: whether its standing moves, made from the start table read off the record, give the record, and the kept ones behind them are accepted. Each
+// thread's calls among the standing moves, as far as they are made, are added to its count; a list of one has no thread's count.
 fn test(session: Session, journal: &[u8], calls: &mut [u16]) -> u8
     ensures number { λ r. ⌜ r ≡ test-refusal session (now (journal .entry)) ⌝ }
     ensures calls { λ r. ⌜ now (calls .exit) ≡ if-zero (lent-refusal session (length (now (journal .entry)))) (counted-in session (now (journal .entry)) (now (calls .entry))) (now (calls .entry)) ⌝ }
@@ -89,7 +97,7 @@ fn test(session: Session, journal: &[u8], calls: &mut [u16]) -> u8
         return first;
     }
     let state = session.state;
-    let found = replayed(session, journal, state.applied, calls);
+    let found = replayed(session, journal, state.applied as usize, calls);
     let agrees = found.agrees;
     if agrees { 0 } else { Refusal::BAD_JOURNAL }
 }
@@ -105,8 +113,22 @@ pub fn refused(refusal: u8, session: Session) -> MoveAnswer
     }
 }
 
-// Moves processor p: action a with operand o, once the journal is tested. Accepted, the move's three bytes are the journal's next; refused, record and journal
-// stay and nothing is touched.
+// The record after moves that lead to a state: where one was made, what was kept behind the standing moves is dropped.
+pub fn continued(session: Session, state: State) -> Session
+    ensures { λ r. ⌜ r ≡ continued session state ⌝ }
+{
+    let before = session.state;
+    let n = state.applied;
+    let kept = if n == before.applied { session.kept } else { n };
+    Session {
+        state,
+        initial: session.initial,
+        kept,
+    }
+}
+
+// Moves processor p: action a with operand o, once the journal is tested. Accepted, the move's three bytes are the journal's next, and no move is kept behind it;
+// refused, record and journal stay and nothing is touched.
 pub fn make_move(session: Session, journal: &mut [u8], p: u8, a: u8, o: u8) -> MoveAnswer
     ensures answer { λ r. ⌜ r ≡ moved session (now (journal .entry)) (move-of p a o) ⌝ }
     ensures written { λ r. ⌜ now (journal .exit) ≡ journal-after session (now (journal .entry)) (move-of p a o) ⌝ }
@@ -117,19 +139,19 @@ pub fn make_move(session: Session, journal: &mut [u8], p: u8, a: u8, o: u8) -> M
         return refused(first, session);
     }
     let state = session.state;
-    let initial = session.initial;
     let made = touch::make(state, p, a, o);
     keep_move(journal, made.refusal, state.applied, p, a, o);
-    let state = made.state;
+    let session = continued(session, made.state);
     let touch = made.touch;
     MoveAnswer {
         refusal: made.refusal,
-        session: Session { state, initial },
+        session,
         touch,
     }
 }
 
-// Tests a journal: whether its standing moves give the record, and how many calls each thread has made by them.
+// Tests a journal: whether its standing moves give the record and the kept ones behind them are accepted; and how many calls each thread has made by the standing
+// ones.
 pub fn test_journal(session: Session, journal: &[u8]) -> Tested
     ensures { λ r. ⌜ r ≡ tested session (now (journal .entry)) ⌝ }
 {
@@ -145,9 +167,9 @@ pub fn test_journal(session: Session, journal: &[u8]) -> Tested
     }
 }
 
-// Steps back: the journal is replayed from the start table read off the record, and the state before its last move is given.
-pub fn undo(session: Session, journal: &[u8]) -> Answer
-    ensures { λ r. ⌜ r ≡ undone session (now (journal .entry)) ⌝ }
+// Goes to step k: the journal's kept moves are replayed from the start table read off the record, and the state after the first k is given. All stay kept.
+pub fn goto(session: Session, journal: &[u8], k: usize) -> Answer
+    ensures { λ r. ⌜ r ≡ went session (now (journal .entry)) k ⌝ }
 {
     let first = lent(session, journal.len());
     if first != 0 {
@@ -156,23 +178,26 @@ pub fn undo(session: Session, journal: &[u8]) -> Answer
             session,
         };
     }
-    let state = session.state;
-    let n = state.applied;
-    if n == 0 {
+    let kept = session.kept;
+    if (kept as usize) < k {
         return Answer {
-            refusal: Refusal::NOTHING_APPLIED,
+            refusal: Refusal::NO_STEP,
             session,
         };
     }
     let mut none = [0u16; 1];
-    let found = replayed(session, journal, n - 1, &mut none);
+    let found = replayed(session, journal, k, &mut none);
     let agrees = found.agrees;
     if agrees {
         let state = found.state;
         let initial = session.initial;
         return Answer {
             refusal: 0,
-            session: Session { state, initial },
+            session: Session {
+                state,
+                initial,
+                kept,
+            },
         };
     }
     Answer {
@@ -181,19 +206,23 @@ pub fn undo(session: Session, journal: &[u8]) -> Answer
     }
 }
 
-// The words that the last standing move touched: its step back gives the state before it. Nothing where that is refused.
+// The words that the last standing move touched: going to the step before it gives the state before it. Nothing where that is refused or no move stands.
 pub fn last_touch(session: Session, journal: &[u8]) -> Touch
     ensures { λ r. ⌜ r ≡ last-touched session (now (journal .entry)) ⌝ }
 {
-    let back = undo(session, journal);
+    let now = session.state;
+    let n = now.applied as usize;
+    if n == 0 {
+        return Touch::nothing();
+    }
+    let back = goto(session, journal, n - 1);
     if back.refusal != 0 {
         return Touch::nothing();
     }
     let before = back.session;
-    let state = before.state;
-    let at = 3 * (state.applied as usize);
+    let at = 3 * (n - 1);
     let made = touch::make(
-        state,
+        before.state,
         get(journal, at),
         get(journal, at + 1),
         get(journal, at + 2),

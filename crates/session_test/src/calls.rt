@@ -76,7 +76,7 @@ fn write_in(state: State, room: isize, bytes: &mut [u8]) -> u8 {
     picture::write(state, &mut bytes[..n])
 }
 
-// The picture, written into room bytes, or the number that refuses it, and B.
+// The picture, written into room bytes, or the number that refuses it, B and the number kept.
 fn picture(session: Session, room: isize) {
     let state = session.state;
     let mut bytes = [0u8; 296];
@@ -89,7 +89,8 @@ fn picture(session: Session, room: isize) {
     } else {
         number(refusal as u64, b" ");
     }
-    number(session.initial as u64, b"\n");
+    number(session.initial as u64, b" ");
+    number(session.kept as u64, b"\n");
 }
 
 // 296 bytes, the longest picture's, where the line has no number.
@@ -192,20 +193,20 @@ fn edited(session: Session, lent: isize, line: Line, journal: &mut [u8], i: usiz
     answer.refusal
 }
 
-// A number that stands for the refusals where each byte of the standing moves is raised in turn.
+// A number that stands for the refusals where each byte of the kept moves is raised in turn.
 fn sweep(session: Session, lent: isize, line: Line, journal: &mut [u8]) -> u64 {
-    let state = session.state;
     let mut x: u64 = 0;
-    for i in 0..3 * (state.applied as usize) {
+    for i in 0..3 * (session.kept as usize) {
         x = mixed(x, edited(session, lent, line, journal, i));
     }
     x
 }
 
-fn back(session: Session, lent: isize, journal: &[u8]) -> Session {
+fn goto(session: Session, lent: isize, line: Line, journal: &[u8]) -> Session {
     let n = io::count(lent, journal);
     let before = hash(journal);
-    let answer = session::undo(session, &journal[..n]);
+    let k = line.number(1) as usize;
+    let answer = session::goto(session, &journal[..n], k);
     let alike = before == hash(journal);
     report(session, answer, alike)
 }
@@ -252,7 +253,7 @@ pub(crate) fn execute(
     match word {
         b's' => start(session, line),
         b'm' => make_move(session, lent, line, journal),
-        b'b' => back(session, lent, journal),
+        b'g' => goto(session, lent, line, journal),
         b'c' => with_field(session, line.number(1), line.number(2)),
         b'r' => stored,
         b'a' => {

@@ -1,4 +1,4 @@
-// The fields of a session's record by their numbers: 0 to 4 are P, T, M, the moves applied and B, 5 to 13 the firsts of queues 0 to 8, 14 to 85 the processors (8 each), 86 to 121 the mutexes (4 each), 122 to 220 the threads (3 each), 221 the choice of ready queues, 222 to 229 the firsts of those of the processors, 230 to 238 the processors' look numbers. Each table begins with its unused row 0.
+// The fields of a session's record by their numbers: 0 to 4 are P, T, M, the moves applied and B, 5 to 13 the firsts of queues 0 to 8, 14 to 85 the processors (8 each), 86 to 121 the mutexes (4 each), 122 to 220 the threads (3 each), 221 the choice of ready queues, 222 to 229 the firsts of those of the processors, 230 to 238 the processors' look numbers, 239 the number kept. Each table begins with its unused row 0.
 use crate::line::low;
 use state::Mutex;
 use state::Processor;
@@ -9,7 +9,7 @@ use state::Token;
 use state::access;
 use state::chain;
 
-const FIELDS: u16 = 239;
+const FIELDS: u16 = 240;
 
 fn wide(b: u8) -> u16 {
     b as u16
@@ -107,8 +107,11 @@ fn field(session: Session, i: u16) -> u16 {
     if i < 230 {
         return wide(first(state, low(i - 213)));
     }
-    let r = processor(state, low(i - 230));
-    wide(r.probe)
+    if i < 239 {
+        let r = processor(state, low(i - 230));
+        return wide(r.probe);
+    }
+    session.kept
 }
 
 pub(crate) fn same(a: Session, b: Session) -> bool {
@@ -263,7 +266,7 @@ fn with_mutex(state: State, m: u8, r: Mutex) -> State {
     next
 }
 
-// The state with field i, any but B, set to v.
+// The state with field i, any but B and the number kept, set to v.
 fn with_state(state: State, i: u16, v: u16) -> State {
     let b = low(v);
     if i < 5 {
@@ -306,6 +309,10 @@ pub(crate) fn with_field(session: Session, i: u16, v: u16) -> Session {
     let mut next = session;
     if i == 4 {
         next.initial = low(v);
+        return next;
+    }
+    if i == 239 {
+        next.kept = v;
         return next;
     }
     let state = session.state;

@@ -39,7 +39,7 @@ fn up_to(b: u8, most: u8) -> u8 {
 }
 
 // Numbers from 0 to the most, from a seed.
-fn generate(seed: u16, most: u8, list: &mut [u8]) {
+fn build(seed: u16, most: u8, list: &mut [u8]) {
     noise(seed, list);
     for i in 0..list.len() {
         let b = list[i];
@@ -104,7 +104,7 @@ fn class(
 // Whether a word is one of these commands.
 pub(crate) fn of_scripts(word: u8) -> bool {
     match word {
-        b'i' | b't' | b'd' | b'e' | b'o' | b'g' | b'v' => true,
+        b'i' | b't' | b'd' | b'e' | b'o' | b'b' | b'v' => true,
         _ => false,
     }
 }
@@ -115,7 +115,7 @@ fn fill(line: Line, scripts: &mut [u8], list: &mut [u8], answers: &mut [u8], pic
     match word {
         b'e' => edit(scripts, line),
         b'o' => edit(list, line),
-        b'g' => generate(line.number(1), line.byte(2), list),
+        b'b' => build(line.number(1), line.byte(2), list),
         _ => {
             noise(line.number(1), answers);
             noise(line.number(1), pictures);

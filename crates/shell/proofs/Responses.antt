@@ -9,7 +9,7 @@ use lib.ListN.{length, length-append}
 use borrow.Author.Tests.{eqb-true}
 use Rattle.command.specs.Printing.{hex, line-feed}
 use Rattle.command.specs.declared.Command.{Command}
-use Rattle.command.specs.declared.Command.the-variants.{Start, StartWith, Move, Back, Show, Unknown}
+use Rattle.command.specs.declared.Command.the-variants.{Start, StartWith, Move, Goto, Show, Unknown}
 use Rattle.command.proofs.Lines.{decimal-length}
 use Rattle.command.proofs.Put.{hex-length}
 use Rattle.state.specs.declared.State.{State}
@@ -41,6 +41,6 @@ unfolding response
 response-length (Start p t m b) k = number-length _
 response-length (StartWith p t m b c) k = number-length _
 response-length (Move p a o) k = choice-length (k .begun) _ question-mark (number-length _) (omega arith)
-response-length Back k = choice-length (k .begun) _ question-mark (number-length _) (omega arith)
+response-length (Goto i) k = choice-length (k .begun) _ question-mark (number-length _) (omega arith)
 response-length Show k = choice-length (k .begun) _ question-mark (picture-text-length _) (omega arith)
 response-length Unknown k = omega arith

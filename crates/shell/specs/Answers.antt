@@ -7,7 +7,7 @@ use mathlib.Core.List.{List, _∷_, _++_}
 use lib.Dec.{eqb}
 use Rattle.command.specs.Printing.{decimal, hex, line-feed}
 use Rattle.command.specs.declared.Command.{Command}
-use Rattle.command.specs.declared.Command.the-variants.{Start, StartWith, Move, Back, Show, Unknown}
+use Rattle.command.specs.declared.Command.the-variants.{Start, StartWith, Move, Goto, Show, Unknown}
 use Rattle.state.specs.declared.Session.{Session}
 use Rattle.state.specs.declared.State.{State}
 use Rattle.state.specs.Association.{decode}
@@ -15,7 +15,7 @@ use Rattle.reference.specs.Picture.{picture}
 use Rattle.reference.specs.Step.{move-of}
 use Rattle.picture.specs.Picture.{write-refusal}
 use Rattle.session.specs.declared.Answer.{Answer}
-use Rattle.session.specs.Contract.{table, started, moved, journal-after, undone}
+use Rattle.session.specs.Contract.{table, started, moved, journal-after, went}
 use Rattle.shell.specs.declared.Shell.{Shell}
 
 -- begun: a start has been accepted; its session, and the journal
@@ -49,7 +49,7 @@ unfoldable pub response : Command → Context → List ℕ
 response (Start p t m b) k = number (started (table p t m b 0) .refusal)
 response (StartWith p t m b c) k = number (started (table p t m b c) .refusal)
 response (Move p a o) k = cond (k .begun) (number (moved (k .session) (k .journal) (move-of p a o) .refusal)) question-mark
-response Back k = cond (k .begun) (number (undone (k .session) (k .journal) .refusal)) question-mark
+response (Goto i) k = cond (k .begun) (number (went (k .session) (k .journal) i .refusal)) question-mark
 response Show k = cond (k .begun) (picture-text (k .session .state)) question-mark
 response Unknown k = question-mark
 
@@ -57,16 +57,16 @@ response Unknown k = question-mark
 abbrev pub begun-by : Answer → Context → Context
 begun-by a k = cond (eqb (a .refusal) 0) (record { begun = true; session = a .session; journal = k .journal }) k
 
--- a move or a step back leaves the record that it answers
+-- a move or a goto leaves the record that it answers
 abbrev pub holding : Bool → Session → List ℕ → Context
 holding begun r j = record { begun = begun; session = r; journal = j }
 
--- what a line leaves; a refused move or step back answers the record that it was handed
+-- what a line leaves; a refused move or goto answers the record that it was handed
 unfoldable pub after : Command → Context → Context
 after (Start p t m b) k = begun-by (started (table p t m b 0)) k
 after (StartWith p t m b c) k = begun-by (started (table p t m b c)) k
 after (Move p a o) k =
     cond (k .begun) (holding (k .begun) (moved (k .session) (k .journal) (move-of p a o) .session) (journal-after (k .session) (k .journal) (move-of p a o))) k
-after Back k = cond (k .begun) (holding (k .begun) (undone (k .session) (k .journal) .session) (k .journal)) k
+after (Goto i) k = cond (k .begun) (holding (k .begun) (went (k .session) (k .journal) i .session) (k .journal)) k
 after Show k = k
 after Unknown k = k

@@ -5,7 +5,7 @@ ghost use mathlib.Core.List.{List};
 ghost use Prim.Native.Nat.{ℕ};
 ghost use Rattle.command.specs.Printing.{buffer-of, add};
 ghost use Rattle.reference.specs.Step.{move-of};
-ghost use Rattle.session.specs.Contract.{table, started, moved, journal-after, undone};
+ghost use Rattle.session.specs.Contract.{table, started, moved, journal-after, went};
 ghost use Rattle.shell.specs.Answers.{number, context-of, question-mark, picture-text, begun-by, holding, response, after};
 use command::Command;
 use command::input::Input;
@@ -114,12 +114,12 @@ fn step(shell: Shell, journal: &mut [u8], out: &mut [u8], p: u8, a: u8, o: u8) -
     Reply { shell: next, len }
 }
 
-fn back(shell: Shell, journal: &[u8], out: &mut [u8]) -> Reply
-    ensures { λ r. ⌜ context-of (r .shell) (now (journal .entry)) ≡ holding (shell .begun) (undone (shell .session) (now (journal .entry)) .session) (now (journal .entry)) ⌝ }
-    ensures { λ r. ⌜ buffer-of (now (out .exit)) (r .len) ≡ add (buffer-of (now (out .entry)) 0) (number (undone (shell .session) (now (journal .entry)) .refusal)) ⌝ }
+fn goto(shell: Shell, journal: &[u8], out: &mut [u8], k: u16) -> Reply
+    ensures { λ r. ⌜ context-of (r .shell) (now (journal .entry)) ≡ holding (shell .begun) (went (shell .session) (now (journal .entry)) k .session) (now (journal .entry)) ⌝ }
+    ensures { λ r. ⌜ buffer-of (now (out .exit)) (r .len) ≡ add (buffer-of (now (out .entry)) 0) (number (went (shell .session) (now (journal .entry)) k .refusal)) ⌝ }
 {
     let session = shell.session;
-    let answer = session::undo(session, journal);
+    let answer = session::goto(session, journal, k as usize);
     let left = answer.session;
     let mut next = shell;
     next.session = left;
@@ -141,8 +141,8 @@ pub fn respond(shell: Shell, journal: &mut [u8], command: Command, out: &mut [u8
         } else {
             unknown(shell, out)
         },
-        Command::Back => if begun {
-            back(shell, journal, out)
+        Command::Goto(k) => if begun {
+            goto(shell, journal, out, k)
         } else {
             unknown(shell, out)
         },

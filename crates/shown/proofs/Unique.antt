@@ -1,7 +1,7 @@
 -- A record that keeps the rules shows one state, which is allowed, and an allowed state is shown by one such record; what is known of a session's record.
 -- Assumes nothing.
-use Prim.Native.Nat.{ℕ}
-use mathlib.Core.Bool.{true}
+use Prim.Native.Nat.{ℕ, _≤_}
+use mathlib.Core.Bool.{Bool, true, _&&_}
 use mathlib.Core.Path.{_≡_, ap, sym, _∙_}
 use Rattle.state.specs.declared.State.{State}
 use Rattle.state.specs.declared.Session.{Session}
@@ -43,24 +43,32 @@ one-to-one =
 
 -- ---- session records
 
-pub session-record-ok : (s : reference.State) (b : ℕ) → Allowed s → In (s .T) b → session-ok (session-record s b) ≡ true
+pub session-record-ok : (s : reference.State) (b k : ℕ) → Allowed s → In (s .T) b → s .applied ≤ k → k ≤ 4000 → session-ok (session-record s b k) ≡ true
 unfolding session-ok encode
-session-record-ok s b h i = both (encode-ok s h) (true-range 1 (s .T) b (i .0) (i .1))
+session-record-ok s b k h i low high = both (both (encode-ok s h) (true-range 1 (s .T) b (i .0) (i .1))) (true-range (s .applied) 4000 k low high)
 
 -- what is known of a session record that keeps the rules
 pub record Held (r : Session) : Type 0 where
   pub state : state-ok (r .state) ≡ true
   pub initial : In (r .state .t) (r .initial)
   pub allowed : Allowed (decode (r .state))
-  pub same : session-record (decode (r .state)) (r .initial) ≡ r
+  -- the number kept
+  pub standing : r .state .applied ≤ r .kept
+  pub most : r .kept ≤ 4000
+  pub same : session-record (decode (r .state)) (r .initial) (r .kept) ≡ r
 
 pub session-held : (r : Session) → Sized (r .state) → session-ok r ≡ true → Held r
 unfolding session-ok
 session-held r z e =
-    let k : state-ok (r .state) ≡ true = both-left (state-ok (r .state)) (in-range 1 (r .state .t) (r .initial)) e in
+    let shape : Bool = state-ok (r .state) && in-range 1 (r .state .t) (r .initial) in
+    let first : shape ≡ true = both-left shape _ e in
+    let k : state-ok (r .state) ≡ true = both-left (state-ok (r .state)) _ first in
+    let kept = range-true (r .state .applied) 4000 (r .kept) (both-right shape _ e) in
     record {
       state = k;
-      initial = range-true 1 (r .state .t) (r .initial) (both-right (state-ok (r .state)) (in-range 1 (r .state .t) (r .initial)) e);
+      initial = range-true 1 (r .state .t) (r .initial) (both-right (state-ok (r .state)) _ first);
       allowed = decode-allowed (r .state) z k;
-      same = λ i. record { state = encode-decode (r .state) z k i; initial = r .initial };
+      standing = kept .0;
+      most = kept .1;
+      same = λ i. record { state = encode-decode (r .state) z k i; initial = r .initial; kept = r .kept };
     }

@@ -72,9 +72,9 @@ encode s =
       mutexes = tabulate (λ m. mutex-record (mutex-at s m)) 0 9;
     }
 
--- the session record of a state, with B
-abbrev pub session-record : reference.State → ℕ → Session
-session-record s b = record { state = encode s; initial = b }
+-- the session record of a state, with B and the number kept
+abbrev pub session-record : reference.State → ℕ → ℕ → Session
+session-record s b k = record { state = encode s; initial = b; kept = k }
 
 -- ---- the state of a record
 

@@ -45,7 +45,7 @@ zero-state =
     }
 
 abbrev pub zero-session : Session
-zero-session = record { state = zero-state; initial = 0 }
+zero-session = record { state = zero-state; initial = 0; kept = 0 }
 
 abbrev pub thread-in : List Thread → ℕ → Thread
 thread-in l k = getD l k zero-thread

@@ -156,9 +156,9 @@ zero-past r =
 unfoldable pub state-ok : State → Bool
 state-ok r = eqb (broken-rule r) 0 && zero-past r
 
--- and B is 1 to T
+-- and B is 1 to T, and the number kept not below the standing moves nor above 4,000
 unfoldable pub session-ok : Session → Bool
-session-ok r = state-ok (r .state) && in-range 1 (r .state .t) (r .initial)
+session-ok r = state-ok (r .state) && in-range 1 (r .state .t) (r .initial) && in-range (r .state .applied) 4000 (r .kept)
 
 -- a record that keeps the rules: a state's, and a session's
 abbrev pub Valid : State → Type 0

@@ -112,8 +112,9 @@ pub struct State {
     pub mutexes: [Mutex; 9],
 }
 
-// A session's record: its state and B, the threads created at first.
+// A session's record: its state, B (the threads created at first), and how many moves are kept: those that stand, and those behind them that were gone back over.
 pub struct Session {
     pub state: State,
     pub initial: u8,
+    pub kept: u16,
 }

@@ -26,8 +26,8 @@ impl Refusal {
     // No room for a further move.
     pub const FULL: u8 = 8;
 
-    // A step back where no move is applied.
-    pub const NOTHING_APPLIED: u8 = 9;
+    // Going to a step that is not kept.
+    pub const NO_STEP: u8 = 9;
 
     // A journal or a buffer that is too short.
     pub const TOO_SHORT: u8 = 10;

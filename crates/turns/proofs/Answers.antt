@@ -13,6 +13,7 @@ use borrow.Author.Tests.{ne-eqb, lt-ltb, le-ltb, ltb-true, ltb-false}
 use Rattle.state.specs.declared.State.{State as Record}
 use Rattle.state.specs.declared.Session.{Session}
 use Rattle.state.specs.Record.{zero-session, processor-of, Sized}
+use Rattle.state.specs.Association.{encode, decode, session-record}
 use Rattle.step.specs.declared.Moved.{Moved}
 use Rattle.step.specs.model.Moves.{moved-of}
 use Rattle.touch.specs.declared.Touch as code
@@ -27,13 +28,14 @@ use Rattle.reference.specs.Start.{Config, config-cause}
 use Rattle.reference.specs.Step.{Move, move-of}
 use Rattle.reference.specs.Touch.{Touch, nothing}
 use Rattle.reference.specs.Script.{scripts-ok, scripts-cause}
-use Rattle.reference.specs.Session.{lacks-room}
+use Rattle.reference.specs.Session.{state-of, lacks-room}
+use Rattle.reference.proofs.Laws.{applied-is}
 use Rattle.session.specs.Contract.{shown, config-of, started, or-later, lent-refusal, matches, test-refusal, tested, progress-in, move-refusal, moved, journal-after}
-use Rattle.session.specs.model.Replay.{stored}
+use Rattle.session.specs.model.Replay.{stored, continued}
 use Rattle.session.proofs.Answers.{or-passed, or-first, lent-passed, test-passed, made-answer, made-journal}
-use Rattle.session.proofs.Undone.{state-right}
+use Rattle.session.proofs.Found.{state-right}
 use Rattle.session.proofs.Testing.{tested-calls}
-use Rattle.turns.specs.Contract.{scripted, turn-made, turn-refusal, turned, turn-journal, class-refusal, classed, class-journal, answers-after, pictures-after}
+use Rattle.turns.specs.Contract.{scripted, turn-made, turn-refusal, turned, turn-journal, class-refusal, class-made, class-kept, classed, class-journal, answers-after, pictures-after}
 use Rattle.turns.specs.declared.made.Made.{Made}
 use Rattle.turns.specs.model.Turn.{turn-of, made-by, turn-result, Given}
 use Rattle.turns.proofs.Turned.{turn-is, its-own}
@@ -148,7 +150,7 @@ module _ (r : Session) (j x : List ℕ) (p : ℕ) where
                     touch = touch-record (choose (eqb (m .refusal) 0) (touch-of (r .state) (b .processor) (b .action) (b .operand)) nothing);
                   }
 
-          pub turn-answer : record { refusal = t .refusal; session = record { state = t .state; initial = r .initial }; touch = w } ≡ turned r j x p
+          pub turn-answer : record { refusal = t .refusal; session = continued r (t .state); touch = w } ≡ turned r j x p
           turn-answer = made-answer r j a size free made touched-is ∙ turn-moved
 
           pub turn-journaled : choose (eqb (t .refusal) 0) (stored j (r .state .applied) (move-of p (t .action) (t .operand))) j ≡ turn-journal r j x p
@@ -184,9 +186,9 @@ module _ (r : Session) (j x ps answers pictures : List ℕ) where
     pub numbers : answers ≡ answers-after r j x ps answers pictures
     pub pictured : pictures ≡ pictures-after r j x ps answers pictures
 
-  class-kept : (n : ℕ) → n ≡ class-refusal r j x ps answers pictures → (n ≡ 0 → ⊥) → ClassKept n
+  class-refused : (n : ℕ) → n ≡ class-refusal r j x ps answers pictures → (n ≡ 0 → ⊥) → ClassKept n
   unfolding classed class-journal answers-after pictures-after
-  class-kept n e h =
+  class-refused n e h =
       let z = ne-eqb n 0 h in
       record { answer = rw (← e, z); journal = rw (← e, z); numbers = rw (← e, z); pictured = rw (← e, z) }
 
@@ -196,7 +198,7 @@ module _ (r : Session) (j x ps answers pictures : List ℕ) where
   -- 10, 15 or 10
   pub class-unfit : (n : ℕ) → n ≡ or-later (lent-refusal r (length j)) (refuse full 10 0) → (n ≡ 0 → ⊥) → ClassKept n
   unfolding class-refusal
-  class-unfit n e h = class-kept n (e ∙ by (lent-refusal r (length j)) full _ (λ z. h (e ∙ z))) h
+  class-unfit n e h = class-refused n (e ∙ by (lent-refusal r (length j)) full _ (λ z. h (e ∙ z))) h
     where
       by : (m : ℕ) (b : Bool) (k : ℕ) → (or-later m (refuse b 10 0) ≡ 0 → ⊥) → or-later m (refuse b 10 0) ≡ or-later m (refuse b 10 k)
       by zero true k z = refl
@@ -227,7 +229,7 @@ module _ (r : Session) (j x ps answers pictures : List ℕ) where
 
     -- 16
     pub class-strange : (n : ℕ) → n ≡ tested r j .refusal → (n ≡ 0 → ⊥) → ClassKept n
-    class-strange n e h = class-kept n (e ∙ test-is ∙ by (not (matches r j)) _ (λ z. h (e ∙ test-is ∙ z)) ∙ sym number-is) h
+    class-strange n e h = class-refused n (e ∙ test-is ∙ by (not (matches r j)) _ (λ z. h (e ∙ test-is ∙ z)) ∙ sym number-is) h
       where
         by : (b : Bool) (k : ℕ) → (refuse b 16 0 ≡ 0 → ⊥) → refuse b 16 0 ≡ refuse b 16 k
         by true k z = refl
@@ -243,7 +245,7 @@ module _ (r : Session) (j x ps answers pictures : List ℕ) where
 
       -- 19
       pub class-unscripted : scripts-ok (r .state .t) x ≡ false → ClassKept 19
-      class-unscripted e = class-kept 19 (sym (number-is ∙ rw (replays-true, e))) (λ z. absurd (omega arith))
+      class-unscripted e = class-refused 19 (sym (number-is ∙ rw (replays-true, e))) (λ z. absurd (omega arith))
 
       module _ (ok : scripts-ok (r .state .t) x ≡ true) where
         pub class-none : class-refusal r j x ps answers pictures ≡ 0
@@ -253,11 +255,24 @@ module _ (r : Session) (j x ps answers pictures : List ℕ) where
         unfolding tested
         calls-are = tested-calls r j same
 
+-- what the turns gave: as many moves are kept as stand, or as before where none is made
+given-kept : (r : Session) (j x ps answers pictures : List ℕ) (s : Record) → s ≡ encode (state-of (config-of r) (class-made r j x ps answers pictures)) →
+    continued r s ≡ session-record (state-of (config-of r) (class-made r j x ps answers pictures)) (r .initial) (class-kept r j x ps answers pictures)
+unfolding encode decode
+given-kept r j x ps answers pictures s e =
+    let ms : List Move = class-made r j x ps answers pictures in
+    ap (continued r) e ∙
+    ap (λ (n : ℕ). record { state = encode (state-of (config-of r) ms); initial = r .initial; kept = choose (eqb n (r .state .applied)) (r .kept) n }) (applied-is (config-of r) ms)
+
 -- what the turns gave is what the class answers
 pub class-given : (r : Session) (j x ps answers pictures : List ℕ) → class-refusal r j x ps answers pictures ≡ 0 → (s : Record) (j′ answers′ pictures′ : List ℕ) →
     Given r j x ps answers pictures s j′ answers′ pictures′ →
-    (record { refusal = 0; session = record { state = s; initial = r .initial } } ≡ classed r j x ps answers pictures) × (j′ ≡ class-journal r j x ps answers pictures) ×
+    (record { refusal = 0; session = continued r s } ≡ classed r j x ps answers pictures) × (j′ ≡ class-journal r j x ps answers pictures) ×
     (answers′ ≡ answers-after r j x ps answers pictures) × (pictures′ ≡ pictures-after r j x ps answers pictures)
 unfolding classed class-journal answers-after pictures-after
-class-given r j x ps answers pictures none s j′ answers′ pictures′ g =
-    (rw (none, g .state), rw (none, g .journal), rw (none, g .numbers), rw (none, g .pictured))
+class-given r j x ps answers pictures none s j′ answers′ pictures′ g = (
+  rw none (ap (λ (z : Session). record { refusal = 0; session = z }) (given-kept r j x ps answers pictures s (g .state))),
+  rw (none, g .journal),
+  rw (none, g .numbers),
+  rw (none, g .pictured),
+)

@@ -35,7 +35,7 @@ use Rattle.reference.proofs.Script.{accepted-turn, accepted-class, moves-more, 
 use Rattle.session.specs.Contract.{config-of, lent-refusal, standing, matches, progress-in, written-at}
 use Rattle.session.specs.model.Replay.{stored}
 use Rattle.session.proofs.Answers.{or-passed, lent-passed}
-use Rattle.session.proofs.Undone.{state-right}
+use Rattle.session.proofs.Found.{state-right}
 use Rattle.session.proofs.Shown.{picture-long, pictured}
 use Rattle.session.proofs.Shown as reached
 use Rattle.session.proofs.Counted.{calls-of}

@@ -23,7 +23,7 @@ use Rattle.reference.specs.Session.{bytes, state-of, lacks-room}
 -- ---- scripted start: 1, 19; refused, an all-zero record
 
 unfoldable pub scripted : Config → List ℕ → Answer
-scripted c x = answered (or-later (config-cause c) (scripts-cause (c .T) x)) (session-record (start c) (c .B)) zero-session
+scripted c x = answered (or-later (config-cause c) (scripts-cause (c .T) x)) (session-record (start c) (c .B) 0) zero-session
 
 -- ---- turn of processor p: 10, 15 (record), 16, 19, then its move's; refused, the record handed in, nothing touched and the journal as it was
 
@@ -54,8 +54,12 @@ module _ (r : Session) (j x ps answers pictures : List ℕ) where
   abbrev pub class-made : List Move
   class-made = class-moves (config-of r) x (standing r j) ps
 
+  -- the moves kept are then those that stand, or where no turn is accepted the same as before
+  abbrev pub class-kept : ℕ
+  class-kept = choose (eqb (length class-made) (shown r .applied)) (r .kept) (length class-made)
+
   unfoldable pub classed : Answer
-  classed = answered class-refusal (session-record (state-of (config-of r) class-made) (r .initial)) r
+  classed = answered class-refusal (session-record (state-of (config-of r) class-made) (r .initial) class-kept) r
 
   unfoldable pub class-journal : List ℕ
   class-journal = choose (eqb class-refusal 0) (with-front j (bytes class-made)) j

@@ -11,6 +11,7 @@ use crate::sequence::unfit;
 use script::scripts_ok;
 use session::Answer;
 use session::MoveAnswer;
+use session::continued;
 use session::journal::keep_move;
 use session::refused;
 use session::test_journal;
@@ -34,7 +35,11 @@ pub fn start(p: u8, t: u8, m: u8, b: u8, stealing: u8, scripts: &[u8]) -> Answer
     let state = State::zero();
     Answer {
         refusal: Refusal::BAD_SCRIPT,
-        session: Session { state, initial: 0 },
+        session: Session {
+            state,
+            initial: 0,
+            kept: 0,
+        },
     }
 }
 
@@ -63,11 +68,10 @@ pub fn turn(session: Session, journal: &mut [u8], scripts: &[u8], p: u8) -> Move
             done.operand,
         );
         let touch = touched(done.refusal, state, p, done.action, done.operand);
-        let state = done.state;
-        let initial = session.initial;
+        let session = continued(session, done.state);
         return MoveAnswer {
             refusal: done.refusal,
-            session: Session { state, initial },
+            session,
             touch,
         };
     }
@@ -115,10 +119,10 @@ pub fn class(
     if ok {
         let calls = found.calls;
         let state = take_turns(session, calls, journal, scripts, turns, answers, pictures);
-        let initial = session.initial;
+        let session = continued(session, state);
         return Answer {
             refusal: 0,
-            session: Session { state, initial },
+            session,
         };
     }
     Answer {

@@ -5,36 +5,47 @@ use mathlib.Core.List.{List, [], _∷_}
 use lib.Dec.{eqb, leb, ltb}
 use lib.ListN.{length, getD, drop}
 use Rattle.command.specs.declared.Command.{Command}
-use Rattle.command.specs.declared.Command.the-variants.{Start, StartWith, Move, Back, Show, Unknown}
+use Rattle.command.specs.declared.Command.the-variants.{Start, StartWith, Move, Goto, Show, Unknown}
 use Rattle.command.specs.declared.reading.Field.{Field}
+use Rattle.command.specs.declared.reading.Number.{Number}
 use Rattle.command.specs.declared.reading.Three.{Three}
-use Rattle.command.specs.Command.{start-word, move-word, back-word, show-word}
+use Rattle.command.specs.Command.{start-word, move-word, goto-word, show-word}
 
 abbrev pub is-digit : ℕ → Bool
 is-digit b = leb 48 b && leb b 57
 
-abbrev pub no-field : Field
-no-field = record { value = 0; width = 0 }
+abbrev pub no-number : Number
+no-number = record { value = 0; width = 0 }
 
 abbrev pub no-three : Three
 no-three = record { first = 0; second = 0; third = 0; width = 0 }
 
--- a number of so many bytes, with its space, if it is at most 255
-abbrev pub fit : ℕ → ℕ → Field
-fit n w = cond (leb n 255) (record { value = n; width = w }) no-field
+-- a number with one more digit
+abbrev pub longer : ℕ → ℕ → ℕ
+longer n b = 10 * n + (b - 48)
 
--- the field that starts with these bytes
-unfoldable pub field-of : ℕ → ℕ → ℕ → ℕ → Field
-field-of space a b c =
+-- a number of so many bytes, with its space, if it is at most so large
+abbrev pub fit : ℕ → ℕ → ℕ → Number
+fit most n w = cond (leb n most) (record { value = n; width = w }) no-number
+
+-- the number that starts with these bytes
+unfoldable pub number-of : ℕ → ℕ → ℕ → ℕ → ℕ → ℕ → Number
+number-of most space a b c d =
     cond (eqb space 32 && is-digit a)
     (cond (is-digit b)
-    (cond (eqb a 48) no-field
-    (cond (is-digit c) (fit (10 * (10 * (a - 48) + (b - 48)) + (c - 48)) 4) (fit (10 * (a - 48) + (b - 48)) 3)))
-    (fit (a - 48) 2))
-    no-field
+    (cond (eqb a 48) no-number
+    (cond (is-digit c)
+    (cond (is-digit d) (fit most (longer (longer (longer (a - 48) b) c) d) 5) (fit most (longer (longer (a - 48) b) c) 4))
+    (fit most (longer (a - 48) b) 3)))
+    (fit most (a - 48) 2))
+    no-number
 
+unfoldable pub number-at : ℕ → List ℕ → Number
+number-at most l = number-of most (getD l 0 0) (getD l 1 0) (getD l 2 0) (getD l 3 0) (getD l 4 0)
+
+-- a number that is a byte
 unfoldable pub field-at : List ℕ → Field
-field-at l = field-of (getD l 0 0) (getD l 1 0) (getD l 2 0) (getD l 3 0)
+field-at l = record { value = number-at 255 l .value; width = number-at 255 l .width }
 
 unfoldable pub three-from : Field → Field → Field → Three
 three-from x y z =
@@ -72,9 +83,16 @@ move-from r n = cond (ltb 0 (r .width) && eqb (4 + r .width) n) (Move (r .first)
 unfoldable pub move-line : List ℕ → Command
 move-line l = move-from (three-at (drop 4 l)) (length l)
 
+unfoldable pub goto-line : List ℕ → Command
+goto-line l =
+    cond (ltb 0 (number-at 4000 (drop 4 l) .width) && eqb (4 + number-at 4000 (drop 4 l) .width) (length l)) (Goto (number-at 4000 (drop 4 l) .value)) Unknown
+
+-- a line that is the word
+unfoldable pub is-word : List ℕ → List ℕ → Bool
+is-word w l = starts w l && eqb (length l) (length w)
+
 -- the command that a line is
 unfoldable pub command-of : List ℕ → Command
 command-of l =
     cond (starts start-word l) (start-line l)
-    (cond (starts move-word l) (move-line l)
-    (cond (eqb (length l) 4) (cond (starts back-word l) Back (cond (starts show-word l) Show Unknown)) Unknown))
+    (cond (starts move-word l) (move-line l) (cond (starts goto-word l) (goto-line l) (cond (is-word show-word l) Show Unknown)))

@@ -1,6 +1,6 @@
 -- How a line of the program `course` is read, piece by piece. CourseGrammar says what comes of it.
 use Prim.Native.Nat.{ℕ, zero, suc, _+_, _*_, _%_}
-use mathlib.Core.Bool.{Bool, _&&_, cond}
+use mathlib.Core.Bool.{_&&_, cond}
 use mathlib.Core.List.{List, [], _∷_, _++_}
 use lib.Dec.{eqb, leb, ltb}
 use lib.ListN.{length, drop}
@@ -9,7 +9,7 @@ use Rattle.command.specs.declared.reading.Field.{Field}
 use Rattle.command.specs.declared.request.Fields.{Fields}
 use Rattle.command.specs.Request.{Ask, plain, script, turn, turns, view, chart, mark, mark-own, help, script-word, turn-word, turns-word, view-word, chart-word, mark-word, help-word}
 use Rattle.command.specs.model.Hex.{hex-bytes}
-use Rattle.command.specs.model.Reading.{field-at, starts, command-of}
+use Rattle.command.specs.model.Reading.{field-at, starts, is-word, command-of}
 
 -- the fields at the front of some bytes, at most so many: their numbers, and what is left behind them
 unfoldable pub values : ℕ → List ℕ → List ℕ
@@ -62,10 +62,6 @@ mark-from b c n =
 
 unfoldable pub mark-line : List ℕ → Ask
 mark-line l = mark-from (first-hex l) (second-hex l) (length l)
-
--- a line that is the word
-unfoldable pub is-word : List ℕ → List ℕ → Bool
-is-word w l = starts w l && eqb (length l) (length w)
 
 -- a line without a list of numbers
 unfoldable pub short-line : List ℕ → Ask

@@ -7,7 +7,7 @@ use Rattle.rules.proofs.session_ok.Tie as tie
 
 returns : tie.Need-returns
 unfolding session-ok
-returns c = rw (c .before .before .state-ok .ensures)
+returns c = rw (c .state-ok .ensures)
 
 pub session-ok-spec : {M : Type 1} → statement M
 session-ok-spec = tie.close (tie.spec (λ c κs. search needs) returns)

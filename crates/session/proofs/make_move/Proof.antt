@@ -23,7 +23,7 @@ returns-2 c =
     let m = move-of (a .p) (a .a) (a .o) in
     let free = sym (i .before .before .test .ensures .0) ∙ i .if1 .left in
     let size = session-sized (start .good .0) in (
-      made-answer (a .session) (a .journal .now) m size free (b .make .result) (b .make .ensures),
+      rw (c .before .continued .ensures) (made-answer (a .session) (a .journal .now) m size free (b .make .result) (b .make .ensures)),
       c .before .before .before .before .keep-move .ensures ∙ made-journal (a .session) (a .journal .now) m size free (b .make .result) (b .make .ensures),
     )
 
@@ -36,6 +36,7 @@ make-move-spec =
     (λ c κs. search needs)
     (λ c. search needs)
     returns
+    (λ c κs. search needs)
     (λ c κs. search needs)
     (λ c κs. search needs)
     (λ c. search needs)

@@ -40,8 +40,8 @@ take-turns-requires c κs =
 
 returns-3 : tie.Need-returns-3
 returns-3 c =
-    let turns = c .before .before .before .before .before .before .take-turns in
-    let i = c .before .before .before .before .before .before .before .before .before .before .before in
+    let turns = c .before .before .before .before .before .before .before .take-turns in
+    let i = c .before .before .before .before .before .before .before .before .before .before .before .before in
     let g = i .before .before .before in
     let f = g .before .before .before in
     let a = f .before .before .before .before .before .before .before .args in
@@ -50,7 +50,7 @@ returns-3 c =
     let ok = sym (i .before .scripts-ok .ensures) ∙ i .if3 .taken in
     let none = class-none (a .session) (a .journal .now) (a .scripts .now) (a .turns .now) (a .answers .now) (a .pictures .now) fits same ok in
     let k = class-given (a .session) (a .journal .now) (a .scripts .now) (a .turns .now) (a .answers .now) (a .pictures .now) none (turns .result) _ _ _ (turns .ensures) in
-    (k .0, (k .1, (k .2, k .3)))
+    (rw (c .continued .ensures) (k .0), (k .1, (k .2, k .3)))
 
 returns-4 : tie.Need-returns-4
 returns-4 c =
@@ -73,6 +73,7 @@ class-spec =
     returns-2
     (λ c κs. search needs)
     take-turns-requires
+    (λ c κs. search needs)
     (λ c. search needs)
     (λ c. search needs)
     (λ c. search needs)

@@ -30,7 +30,8 @@ returns-2 c =
     let size = session-sized (start .good .0) in
     let calls = ap (λ (t : Tested). t .calls) (test .ensures) in
     let w = c .before .touched in (
-      turn-answer (a .session) (a .journal .now) (a .scripts .now) (a .p) free ok size _ calls (done .result) (done .ensures) (w .result) (w .ensures),
+      rw (c .continued .ensures)
+          (turn-answer (a .session) (a .journal .now) (a .scripts .now) (a .p) free ok size _ calls (done .result) (done .ensures) (w .result) (w .ensures)),
       c .before .before .before .before .keep-move .ensures ∙
           turn-journaled (a .session) (a .journal .now) (a .scripts .now) (a .p) free ok size _ calls (done .result) (done .ensures) (w .result) (w .ensures),
     )
@@ -52,6 +53,7 @@ turn-spec =
     (λ c κs. search needs)
     (λ c. search needs)
     returns
+    (λ c κs. search needs)
     (λ c κs. search needs)
     (λ c κs. search needs)
     (λ c κs. search needs)

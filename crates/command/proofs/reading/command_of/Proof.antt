@@ -1,5 +1,4 @@
 -- `command::reading::command_of` meets its contract.
-use borrow.Author.Tests.{eq-eqb, ne-eqb}
 use Rattle.command.specs.model.Reading.{command-of}
 use borrow.Author.Needs.{needs}
 use Rattle.command.proofs.reading.command_of.Statement.{statement}
@@ -15,19 +14,15 @@ returns-2 c = let t = c .before .before in let s = t .before .before .before in 
 
 returns-3 : tie.Need-returns-3
 unfolding command-of
-returns-3 c = let t = c .before .before in let s = t .before .before .before in rw (← s .starts .ensures, t .before .before .if1 .left, ← t .starts2 .ensures, c .before .if2 .left, ne-eqb _ _ (c .if3 .taken))
+returns-3 c = let g = c .before .before in let t = g .before .before .before in let s = t .before .before .before in rw (← s .starts .ensures, t .before .before .if1 .left, ← t .starts2 .ensures, g .before .before .if2 .left, ← g .starts3 .ensures, c .before .if3 .taken) (c .goto .ensures)
 
 returns-4 : tie.Need-returns-4
 unfolding command-of
-returns-4 c = let b = c .before in let t = b .before .before .before .before in let s = t .before .before .before in rw (← s .starts .ensures, t .before .before .if1 .left, ← t .starts2 .ensures, b .before .before .before .if2 .left, eq-eqb _ _ (b .before .before .if3 .left), ← b .starts3 .ensures, c .if4 .taken)
+returns-4 c = let w = c .before in let g = w .before .before .before in let t = g .before .before .before in let s = t .before .before .before in rw (← s .starts .ensures, t .before .before .if1 .left, ← t .starts2 .ensures, g .before .before .if2 .left, ← g .starts3 .ensures, w .before .before .if3 .left, ← w .is-word .ensures, c .if4 .taken)
 
 returns-5 : tie.Need-returns-5
 unfolding command-of
-returns-5 c = let h = c .before in let b = h .before .before .before in let t = b .before .before .before .before in let s = t .before .before .before in rw (← s .starts .ensures, t .before .before .if1 .left, ← t .starts2 .ensures, b .before .before .before .if2 .left, eq-eqb _ _ (b .before .before .if3 .left), ← b .starts3 .ensures, h .before .before .if4 .left, ← h .starts4 .ensures, c .if5 .taken)
-
-returns-6 : tie.Need-returns-6
-unfolding command-of
-returns-6 c = let h = c .before in let b = h .before .before .before in let t = b .before .before .before .before in let s = t .before .before .before in rw (← s .starts .ensures, t .before .before .if1 .left, ← t .starts2 .ensures, b .before .before .before .if2 .left, eq-eqb _ _ (b .before .before .if3 .left), ← b .starts3 .ensures, h .before .before .if4 .left, ← h .starts4 .ensures, c .if5 .left)
+returns-5 c = let w = c .before in let g = w .before .before .before in let t = g .before .before .before in let s = t .before .before .before in rw (← s .starts .ensures, t .before .before .if1 .left, ← t .starts2 .ensures, g .before .before .if2 .left, ← g .starts3 .ensures, w .before .before .if3 .left, ← w .is-word .ensures, c .if4 .left)
 
 pub command-of-spec : {M : Type 1} → statement M
 command-of-spec =
@@ -41,11 +36,11 @@ command-of-spec =
     (λ c κs. search needs)
     (λ c κs. search needs)
     returns-2
+    (λ c. search needs)
+    (λ c κs. search needs)
+    (λ c κs. search needs)
     returns-3
     (λ c. search needs)
     (λ c κs. search needs)
     returns-4
-    (λ c. search needs)
-    (λ c κs. search needs)
-    returns-5
-    returns-6)
+    returns-5)

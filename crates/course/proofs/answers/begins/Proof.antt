@@ -18,15 +18,15 @@ returns-3 c = rw (c .before .command3 .given .1)
 
 returns-4 : tie.Need-returns-4
 unfolding starts
-returns-4 c = rw (c .enum-told .given .1)
+returns-4 c = rw (c .before .command4 .given .1)
 
 returns-5 : tie.Need-returns-5
 unfolding starts
-returns-5 c = rw (c .enum-told2 .given .1)
+returns-5 c = rw (c .enum-told .given .1)
 
 returns-6 : tie.Need-returns-6
 unfolding starts
-returns-6 c = rw (c .enum-told3 .given .1)
+returns-6 c = rw (c .enum-told2 .given .1)
 
 pub begins-spec : {M : Type 1} → statement M
 begins-spec =

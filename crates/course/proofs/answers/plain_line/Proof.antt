@@ -29,23 +29,23 @@ returns-3 c =
 returns-4 : tie.Need-returns-4
 returns-4 c =
     let l = c .before .before .before .before .before .before in
-    let k = l .before .before .before .before in
+    let k = l .before .before .before .before .before in
     let a = k .before .before .before .before .before .args in
-    (l .stepper-line3 .ensures .0, other-command (a .shell) (a .journal .now) (a .scripts .now) _ _ (a .command) _ (k .enum-told .given .1) refl (l .stepper-line3 .ensures .1))
+    rw (k .command4 .given .1) (l .stepper-line3 .ensures .0, other-command (a .shell) (a .journal .now) (a .scripts .now) _ _ _ _ refl refl (l .stepper-line3 .ensures .1))
 
 returns-5 : tie.Need-returns-5
 returns-5 c =
     let l = c .before .before .before .before .before .before in
     let k = l .before .before .before .before in
     let a = k .before .before .before .before .before .args in
-    (l .stepper-line4 .ensures .0, other-command (a .shell) (a .journal .now) (a .scripts .now) _ _ (a .command) _ (k .enum-told2 .given .1) refl (l .stepper-line4 .ensures .1))
+    (l .stepper-line4 .ensures .0, other-command (a .shell) (a .journal .now) (a .scripts .now) _ _ (a .command) _ (k .enum-told .given .1) refl (l .stepper-line4 .ensures .1))
 
 returns-6 : tie.Need-returns-6
 returns-6 c =
     let l = c .before .before .before .before .before .before in
     let k = l .before .before .before .before in
     let a = k .before .before .before .before .before .args in
-    (l .stepper-line5 .ensures .0, other-command (a .shell) (a .journal .now) (a .scripts .now) _ _ (a .command) _ (k .enum-told3 .given .1) refl (l .stepper-line5 .ensures .1))
+    (l .stepper-line5 .ensures .0, other-command (a .shell) (a .journal .now) (a .scripts .now) _ _ (a .command) _ (k .enum-told2 .given .1) refl (l .stepper-line5 .ensures .1))
 
 pub plain-line-spec : {M : Type 1} → statement M
 plain-line-spec =

@@ -5,10 +5,10 @@ use Rattle.session_test.proofs.fields.same.Statement.{statement}
 use Rattle.session_test.proofs.fields.same.Tie as tie
 
 abbrev Inv-loop : tie.InvT-loop
-Inv-loop a b i₀ i = i ≤ 239
+Inv-loop a b i₀ i = i ≤ 240
 
 abbrev μ-loop : tie.MeasureT-loop
-μ-loop a b i₀ i = 239 - i
+μ-loop a b i₀ i = 240 - i
 
 pub same-spec : {M : Type 1} → statement M
 same-spec =

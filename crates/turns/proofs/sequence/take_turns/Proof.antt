@@ -1,4 +1,4 @@
--- `turns::sequence::take_turns` meets its contract. The invariant speaks of any B, since the loop does not look at the record's.
+-- `turns::sequence::take_turns` meets its contract. The invariant speaks of any B and number kept, since the loop does not look at the record's.
 -- Assumes nothing.
 use Prim.Native.Nat.{ℕ, _+_, _-_}
 use mathlib.Core.List.{List, _++_}
@@ -23,15 +23,15 @@ use Rattle.turns.proofs.sequence.take_turns.Reads as reads
 use Rattle.turns.proofs.sequence.take_turns.Lts as lts
 use Rattle.turns.proofs.sequence.take_turns.Tie as tie
 
--- the record with B
-abbrev with-b : State → ℕ → Session
-with-b s b = record { state = s; initial = b }
+-- the record with B and the number kept
+abbrev with-b : State → ℕ → ℕ → Session
+with-b s b k = record { state = s; initial = b; kept = k }
 
 abbrev Inv-loop : tie.InvT-loop
 Inv-loop journal₀ scripts turns answers₀ pictures₀ state₀ calls₀ size at₀ i₀ journal answers pictures state calls at i =
-    (b : ℕ) (z : Sized state₀) (none : class-refusal (with-b state₀ b) journal₀ scripts turns answers₀ pictures₀ ≡ 0) →
-    calls₀ ≡ tabulate (progress-in (with-b state₀ b) journal₀) 0 33 →
-    Going (with-b state₀ b) z journal₀ scripts turns answers₀ pictures₀ none i at state calls journal answers pictures
+    (b k : ℕ) (z : Sized state₀) (none : class-refusal (with-b state₀ b k) journal₀ scripts turns answers₀ pictures₀ ≡ 0) →
+    calls₀ ≡ tabulate (progress-in (with-b state₀ b k) journal₀) 0 33 →
+    Going (with-b state₀ b k) z journal₀ scripts turns answers₀ pictures₀ none i at state calls journal answers pictures
 
 abbrev μ-loop : tie.MeasureT-loop
 μ-loop journal₀ scripts turns answers₀ pictures₀ state₀ calls₀ size at₀ i₀ journal answers pictures state calls at i = length turns - i
@@ -64,10 +64,10 @@ rooms-at l =
     subst
     (λ (n : ℕ).
     Rooms (a .journal .now) (a .turns .now) (a .answers .now) (a .pictures .now) n (l .loop .i) (l .loop .at) (l .loop .journal) (l .loop .answers) (l .loop .pictures))
-    (sym (l .before .picture-bytes .ensures)) (rooms r z _ _ _ _ _ none _ _ _ _ _ _ _ (l .loop .inv (r .initial) z none (s .pre .counted)))
+    (sym (l .before .picture-bytes .ensures)) (rooms r z _ _ _ _ _ none _ _ _ _ _ _ _ (l .loop .inv (r .initial) (r .kept) z none (s .pre .counted)))
 
 loop-holds : tie.Need-loop-holds Inv-loop μ-loop
-loop-holds c = λ b z none e. going-start _ z _ _ _ _ _ none _ e
+loop-holds c = λ b k z none e. going-start _ z _ _ _ _ _ none _ e
 
 slice-write-answers : tie.Need-slice-write-answers Inv-loop μ-loop
 slice-write-answers c = let m = rooms-at (c .before .before .before .before .before .before .before) in omega (arith, c .before .before .before .before .before .before .loop-test .taken)
@@ -93,12 +93,12 @@ loop-again c =
     let shows : List ℕ = l .loop .pictures in
     let at : ℕ = l .loop .at in
     let after : List ℕ = take at shows ++ (wrote .last .0 ++ drop (length shows - at) (drop at shows)) in
-    λ b z none e.
+    λ b k z none e.
     subst
     (λ (n : ℕ).
     Going _ z _ _ _ _ _ none (l .loop .i + 1) (at + n) (turn .result .state) (turn .result .calls) (kept .last .0)
     (set (l .loop .answers) (l .loop .i) (turn .result .refusal)) after) (sym (l .before .picture-bytes .ensures))
-    (going-more _ z _ _ _ _ _ none _ _ _ _ _ _ _ (l .loop .inv b z none e) (c .before .before .before .before .before .before .before .before .before .before .before .before .loop-test .taken) (turn .result) (turn .ensures) (kept .last .0) _
+    (going-more _ z _ _ _ _ _ none _ _ _ _ _ _ _ (l .loop .inv b k z none e) (c .before .before .before .before .before .before .before .before .before .before .before .before .loop-test .taken) (turn .result) (turn .ensures) (kept .last .0) _
     (wrote .last .0) (kept .ensures) refl (wrote .ensures .1))
 
 returns : tie.Need-returns Inv-loop μ-loop
@@ -107,7 +107,7 @@ returns c =
     let s = l .before .before .before .before .before .before .before .before in
     let z = session-sized (s .good .0) in
     let none = s .pre .none in
-    going-end (s .args .session) z _ _ _ _ _ none _ _ _ _ _ _ _ (l .loop .inv (s .args .session .initial) z none (s .pre .counted)) (omega (arith, rooms-at l .few))
+    going-end (s .args .session) z _ _ _ _ _ none _ _ _ _ _ _ _ (l .loop .inv (s .args .session .initial) (s .args .session .kept) z none (s .pre .counted)) (omega (arith, rooms-at l .few))
 
 pub take-turns-spec : {M : Type 1} → statement M
 take-turns-spec =

@@ -1,0 +1,2 @@
+-- What inner contracts ask, which nobody needs to believe.
+pub mod Writable

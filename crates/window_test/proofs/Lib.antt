@@ -1,0 +1,2 @@
+-- What the two lenders' walks share.
+pub mod Record
