@@ -3,7 +3,7 @@
  *
  * Link with libexports.a, which `rt staticlib exports` writes below target/staticlib.
  * The functions keep no state, allocate nothing and call nothing; calls on different
- * memory may run at the same time.
+ * memory may run at the same time. A session is kept by its caller, as bytes.
  *
  * Numbers. 0 is no refusal; those that refuse are named below, and docs/MACHINE.md has them all
  * with their order. No call and no turn of a class is refused by another.
@@ -32,11 +32,14 @@ enum {
     HUMDAYEG_NOT_OWNER = 6,     /* unlock by a thread that is not the owner */
     HUMDAYEG_NOT_NEW = 7,       /* create of a thread that is not new */
     HUMDAYEG_FULL = 8,          /* 4,000 moves are applied already */
-    HUMDAYEG_TOO_SHORT = 10,    /* buffer shorter than what is to be written */
+    HUMDAYEG_NO_STEP = 9,       /* going to a step past the moves kept */
+    HUMDAYEG_TOO_SHORT = 10,    /* buffer shorter than what is to be written, or than a journal */
     HUMDAYEG_BAD_LENGTH = 11,   /* length not exactly the picture's */
     HUMDAYEG_BAD_FIELD = 12,    /* a field, register or zero-byte rule */
     HUMDAYEG_BAD_CHAIN = 13,    /* a chain meets a thread twice, a wrong one, or misses one */
     HUMDAYEG_BAD_HOLDER = 14,   /* current and transit fields against statuses 3 and 4 */
+    HUMDAYEG_NO_SESSION = 15,   /* bytes that are no session */
+    HUMDAYEG_BAD_JOURNAL = 16,  /* the journal's moves are not the session's */
     HUMDAYEG_BAD_SCRIPT = 19,   /* scripts too short, over 6 calls, or an action outside 1 to 6 */
     HUMDAYEG_STILL_OWNER = 21   /* exit by a thread that owns a mutex */
 };
@@ -271,6 +274,141 @@ uint8_t humdayeg_ahead(const uint8_t *picture, size_t picture_len, uint8_t threa
 
 uint16_t humdayeg_mark(const uint8_t *machine, size_t machine_len,
                        const uint8_t *candidate, size_t candidate_len);
+
+/*
+ * A sitting, call by call. The caller keeps two buffers and hands the same ones in again: the
+ * session, and the journal of its moves. They are all there is of it: a caller may have several,
+ * copy both to come back to them, or store them.
+ *
+ * session: session_len bytes. The session is their front: HUMDAYEG_SESSION_BYTES(p, t, m) bytes of
+ *     these sizes, so that HUMDAYEG_MOST_SESSION_BYTES are always enough.
+ *         the picture of its state, whose bytes 4 and 5 are the number n of moves that stand
+ *         1 byte: b, the threads created at first
+ *         2 bytes, high byte first: the number of moves kept, n or more
+ *     The bytes behind it are neither looked at nor changed.
+ * journal: journal_len bytes, HUMDAYEG_JOURNAL_BYTES or more. It begins with the moves kept, in
+ *     order and three bytes each, and those that stand are the first n of them. What is behind the
+ *     moves kept is not looked at, so a new journal may have any bytes.
+ *
+ * Going to a step changes how many moves stand and keeps them all, so that one can go back and
+ * forward again. An accepted move or turn drops those kept past the ones that stand, and stands
+ * behind these; it writes its own three bytes of the journal and no others. A refused call drops
+ * nothing.
+ *
+ * The bytes are no session (15) if there are fewer than three; if p, t or m, which are the first
+ * three, is out of its range; if there are fewer than HUMDAYEG_SESSION_BYTES(p, t, m); if
+ * humdayeg_read refuses the picture among them; if b is outside 1 to t; or if the number of moves
+ * kept is under that of those that stand, or over HUMDAYEG_MOST_MOVES.
+ *
+ * The journal's moves are the session's, or they are refused by 16: made from the start table that
+ * the session tells, the first n lead to its picture, and those kept past them are accepted one
+ * after the other. Whoever wrote them there, they are what is gone to.
+ *
+ * With any answer but 0 no byte of session and journal is changed.
+ */
+#define HUMDAYEG_JOURNAL_BYTES 12000
+#define HUMDAYEG_SESSION_BYTES(p, t, m) (HUMDAYEG_PICTURE_BYTES(p, t, m) + 3)
+#define HUMDAYEG_MOST_SESSION_BYTES 299
+
+/*
+ * Begins a session, in which no move stands and none is kept.
+ *
+ * p, t, m, b, stealing: the start table, as for humdayeg_replay_with.
+ *
+ * Answers, the first that is there:
+ *     1        the table is outside its ranges
+ *     10       session_len is under HUMDAYEG_SESSION_BYTES(p, t, m)
+ *     0        accepted, the session is written
+ */
+uint8_t humdayeg_session_start(uint8_t p, uint8_t t, uint8_t m, uint8_t b, uint8_t stealing,
+                               uint8_t *session, size_t session_len);
+
+/*
+ * Makes a move.
+ *
+ * processor, action, operand: the move's three bytes.
+ *
+ * Answers, the first that is there:
+ *     10       journal_len is under HUMDAYEG_JOURNAL_BYTES
+ *     15       the bytes are no session
+ *     16       the journal's moves are not the session's
+ *     2, 3     no such processor; action or operand
+ *     8        4,000 moves stand already, however many are kept
+ *     4 or 5   a call away from App, or a go at App
+ *     6, 7, 21 unlock by a thread that is not the owner, create of one that is not new, exit by one
+ *              that owns a mutex
+ *     0        accepted, the session and the move's three bytes of the journal are written
+ */
+uint8_t humdayeg_session_move(uint8_t *session, size_t session_len,
+                              uint8_t *journal, size_t journal_len,
+                              uint8_t processor, uint8_t action, uint8_t operand);
+
+/*
+ * Takes a turn: at App the processor makes the next call of its current thread's script, or exit
+ * once that is spent; elsewhere it goes. A thread's next call is the one after those that it has
+ * made among the moves that stand, by turns or by moves.
+ *
+ * scripts: scripts_len bytes, as for humdayeg_class. They are lent at each turn.
+ * processor: the one that has the turn.
+ *
+ * Answers, the first that is there:
+ *     10, 15, 16
+ *              as humdayeg_session_move
+ *     19       the scripts, as by humdayeg_class
+ *     2, 3, 8, 6, 7, 21
+ *              as its move
+ *     0        accepted, the session and the move's three bytes of the journal are written
+ */
+uint8_t humdayeg_session_turn(uint8_t *session, size_t session_len,
+                              uint8_t *journal, size_t journal_len,
+                              const uint8_t *scripts, size_t scripts_len,
+                              uint8_t processor);
+
+/*
+ * Goes to a step, back or forward: as many of the moves kept stand then, and the state is what they
+ * lead to. Step 0 is the start. The journal is not written.
+ *
+ * step: how many moves are to stand.
+ *
+ * Answers, the first that is there:
+ *     10       journal_len is under HUMDAYEG_JOURNAL_BYTES
+ *     15       the bytes are no session
+ *     9        step is over the number of moves kept
+ *     16       the journal's moves are not the session's
+ *     0        accepted, the session is written
+ */
+uint8_t humdayeg_session_goto(uint8_t *session, size_t session_len,
+                              const uint8_t *journal, size_t journal_len,
+                              size_t step);
+
+/*
+ * Writes the picture of a session's state.
+ *
+ * picture: picture_len bytes, as for humdayeg_replay; they are not those of the session.
+ *
+ * Answers, the first that is there:
+ *     15       the bytes are no session
+ *     10       picture_len is under the picture's length
+ *     0        the picture is written; bytes after it keep their values
+ * With any answer but 0 no byte of the picture is changed.
+ */
+uint8_t humdayeg_session_picture(const uint8_t *session, size_t session_len,
+                                 uint8_t *picture, size_t picture_len);
+
+/*
+ * The length of the journal's front, which is the moves that stand: so many bytes of the journal
+ * from its first on, three for each move.
+ *
+ * Answers, the first that is there:
+ *     HUMDAYEG_FRONT_REFUSED + 10     journal_len is under HUMDAYEG_JOURNAL_BYTES
+ *     HUMDAYEG_FRONT_REFUSED + 15     the bytes are no session
+ *     0 to HUMDAYEG_JOURNAL_BYTES     the length. Whether the moves are the session's is not tested
+ *                                     here.
+ */
+#define HUMDAYEG_FRONT_REFUSED 20000
+
+uint16_t humdayeg_session_front(const uint8_t *session, size_t session_len,
+                                const uint8_t *journal, size_t journal_len);
 
 #ifdef __cplusplus
 }

@@ -48,7 +48,7 @@ compile_c() { # NAME
 }
 
 if run archive rt staticlib exports; then
-    for name in check marks words independent; do
+    for name in check marks words independent sitting; do
         if run "c-$name-compile" compile_c "$name"; then run "c-$name" "$logs/$name"; fi
     done
     run differential cargo test --release --offline --locked --manifest-path tests/differential/Cargo.toml

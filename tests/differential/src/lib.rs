@@ -1,9 +1,11 @@
 //! A safe wrapper over the static library of the proved machine (`include/humdayeg.h`), and in
-//! `expected` the same answers worked out by the package `independent`.
+//! `expected` the same answers worked out by the package `independent`. `sitting` has the calls on a
+//! session that is kept as bytes.
 
 pub mod classes;
 pub mod expected;
 pub mod sessions;
+pub mod sitting;
 
 mod c {
     extern "C" {

@@ -41,16 +41,16 @@ impl Session {
         Ok(())
     }
 
-    pub fn undo(&mut self) {
-        if self.states.len() > 1 {
-            self.states.pop();
-            self.moves.truncate(self.moves.len() - 3);
-        }
+    /// Leaves the first moves only, where there are so many.
+    pub fn cut(&mut self, count: usize) {
+        self.states.truncate(count + 1);
+        self.moves.truncate(3 * count);
     }
 }
 
 /// A session of `calls` calls of a driver; those of odd seeds have a ready queue for each
-/// processor. Refused moves are handed to `refused`, with the session as it then stands.
+/// processor. Moves that are gone back over are not kept. Refused moves are handed to `refused`, with
+/// the session as it then stands.
 pub fn drive(
     seed: u64,
     rates: Rates,
@@ -71,8 +71,8 @@ pub fn drive_with(
     let mut driver = Driver::new(seed, rates);
     let mut session = Session::new(expected::table(driver.generator.config()), stealing);
     for _ in 0..calls {
-        match driver.next_call(session.state()) {
-            Call::Undo => session.undo(),
+        match driver.next_call(session.state(), session.state().applied) {
+            Call::Goto(step) => session.cut(step.into()),
             Call::Move(made) => {
                 if session.make(made).is_err() {
                     refused(&session, made);
@@ -181,7 +181,7 @@ pub fn owner_exits(seeds: u64, mut refused: impl FnMut(&Session, Move)) {
     for owning in owners::owning(0).into_iter().chain(owners::owning(1)) {
         refused(&Session::of(&owning.session), [owning.p, EXIT, 0]);
     }
-    let rates = Rates { refused: 0, undo: 0, owner_exits: 4 };
+    let rates = Rates { owner_exits: 4, ..Rates::ACCEPTED };
     for seed in 0..seeds {
         drive(seed, rates, 150, &mut refused);
     }

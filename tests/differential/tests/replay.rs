@@ -92,7 +92,7 @@ fn long_sessions() {
 }
 
 #[test]
-fn middle_sessions_with_undos() {
+fn middle_sessions_with_steps_back() {
     for seed in 2_000..2_200 {
         let mut generator = Generator::new(seed);
         let session = drive(seed, Rates::USUAL, 900, |_, _| ());
@@ -105,7 +105,7 @@ fn middle_sessions_with_undos() {
 
 #[test]
 fn refused_moves() {
-    let often = Rates { refused: 2, undo: 0, owner_exits: 10 };
+    let often = Rates { refused: 2, owner_exits: 10, ..Rates::ACCEPTED };
     let mut met: BTreeMap<(u8, u8), usize> = BTreeMap::new();
     for seed in 3_000..3_300 {
         let mut generator = Generator::new(!seed);

@@ -1,6 +1,8 @@
 //! The stored vectors through the static library: pictures, turns ahead, classes, marks, words,
-//! neighbours, and the program's sessions with each answer worked out by a replay.
+//! neighbours, and the program's sessions, with each answer worked out by a replay and on a session
+//! that is kept as bytes.
 
+use differential::sitting;
 use differential::{
     ahead, class, class_with, mark, neighbours, read, replay_with, words, Ahead, Replayed, Table,
     MOST_PICTURE, TOUCH,
@@ -182,6 +184,25 @@ fn classes() {
     assert!(owner_exits > 500, "{owner_exits}");
 }
 
+/// Their turns one by one, on a session that is kept as bytes.
+#[test]
+fn turns_of_classes() {
+    for path in files("classes", ".txt") {
+        let text = text(&path);
+        let fields = fields(&text);
+        let (table, fifth) = table(fields["table"]);
+        let (scripts, turns) = (unhex(fields["scripts"]), unhex(fields["turns"]));
+        let (mut kept, mut shown) = (BytesSession::new(), Vec::new());
+        assert_eq!(sitting::start(table, fifth.unwrap_or(0), &mut kept.session), 0);
+        for (&p, wanted) in turns.iter().zip(unhex(fields["answers"])) {
+            let answer = sitting::turn(&mut kept.session, &mut kept.journal, &scripts, p);
+            assert_eq!(answer, wanted, "{}", path.display());
+            shown.extend(kept.picture());
+        }
+        assert_eq!(format!("{:016x}", hash(&shown)), fields["hash"], "{}", path.display());
+    }
+}
+
 #[test]
 fn boundaries_of_classes() {
     for path in files("classes", ".list") {
@@ -324,54 +345,106 @@ fn boundaries_of_neighbours() {
     assert!(met.into_keys().eq([0, 1, 201, 202, 203, 204, 205, 206, 207, 221]));
 }
 
-/// The line program's session as a start table and the list of its standing moves.
+/// A line's word and its numbers.
+fn command(line: &str) -> (&str, Vec<usize>) {
+    let mut words = line.split(' ');
+    let word = words.next().unwrap();
+    (word, words.map(|number| number.parse().unwrap()).collect())
+}
+
+/// The table and the fifth number of a start's line.
+fn start_table(numbers: &[usize]) -> (Table, u8) {
+    let bytes: Vec<u8> = numbers.iter().map(|&number| number as u8).collect();
+    (bytes[..4].try_into().unwrap(), bytes.get(4).copied().unwrap_or(0))
+}
+
+/// The line program's session as a start table, the list of its kept moves and how many bytes of it
+/// are moves that stand.
 #[derive(Default)]
 struct ProgramSession {
     table: Option<Table>,
     stealing: u8,
     moves: Vec<u8>,
+    standing: usize,
 }
 
 impl ProgramSession {
     /// The answer to a line whose answer is not `?`.
     fn answer(&mut self, line: &str) -> String {
-        let (word, rest) = line.split_once(' ').unwrap_or((line, ""));
-        let rest = numbers(rest);
         let mut picture = [0; MOST_PICTURE];
-        match word {
-            "start" => {
-                let table = [rest[0], rest[1], rest[2], rest[3]];
-                let stealing = rest.get(4).copied().unwrap_or(0);
+        match command(line) {
+            ("start", numbers) => {
+                let (table, stealing) = start_table(&numbers);
                 let begun = replay_with(table, stealing, &[], &mut picture);
                 if begun.number == 0 {
-                    *self = ProgramSession { table: Some(table), stealing, moves: Vec::new() };
+                    *self = ProgramSession { table: Some(table), stealing, ..Default::default() };
                 }
                 begun.number.to_string()
             }
-            "move" => {
-                let stood = self.moves.len();
-                self.moves.extend(&rest);
-                let made =
-                    replay_with(self.table.unwrap(), self.stealing, &self.moves, &mut picture);
-                if made.number != 0 {
-                    assert_eq!(made.place as usize, stood / 3 + 1);
-                    self.moves.truncate(stood);
-                }
-                made.number.to_string()
-            }
-            "back" if self.moves.is_empty() => "9".to_string(),
-            "back" => {
-                self.moves.truncate(self.moves.len() - 3);
+            ("move", numbers) => self.make_move(&[0, 1, 2].map(|i| numbers[i] as u8)).to_string(),
+            ("goto", numbers) if 3 * numbers[0] > self.moves.len() => "9".to_string(),
+            ("goto", numbers) => {
+                self.standing = 3 * numbers[0];
                 "0".to_string()
             }
             _ => {
                 let table = self.table.unwrap();
                 let [p, t, m, _] = table.map(usize::from);
-                let shown = replay_with(table, self.stealing, &self.moves, &mut picture);
+                let moves = &self.moves[..self.standing];
+                let shown = replay_with(table, self.stealing, moves, &mut picture);
                 assert_eq!(shown, Replayed { number: 0, place: 0 });
                 hex(&picture[..8 + 12 * p + 8 * m + 4 * t])
             }
         }
+    }
+
+    fn make_move(&mut self, made: &[u8; 3]) -> u8 {
+        let moves = [&self.moves[..self.standing], made].concat();
+        let answer =
+            replay_with(self.table.unwrap(), self.stealing, &moves, &mut [0; MOST_PICTURE]);
+        if answer.number == 0 {
+            self.standing = moves.len();
+            self.moves = moves;
+        } else {
+            assert_eq!(answer.place as usize, self.standing / 3 + 1);
+        }
+        answer.number
+    }
+}
+
+/// The same as bytes and a journal.
+struct BytesSession {
+    session: [u8; sitting::MOST_SESSION],
+    journal: Vec<u8>,
+}
+
+impl BytesSession {
+    fn new() -> BytesSession {
+        BytesSession { session: [0; sitting::MOST_SESSION], journal: vec![0xa5; 12_000] }
+    }
+
+    /// The answer to a line whose answer is not `?`.
+    fn answer(&mut self, line: &str) -> String {
+        let (session, journal) = (&mut self.session, &mut self.journal);
+        let number = match command(line) {
+            ("start", numbers) => {
+                let (table, stealing) = start_table(&numbers);
+                sitting::start(table, stealing, session)
+            }
+            ("move", numbers) => {
+                sitting::make_move(session, journal, [0, 1, 2].map(|i| numbers[i] as u8))
+            }
+            ("goto", numbers) => sitting::goto(session, journal, numbers[0]),
+            _ => return hex(&self.picture()),
+        };
+        number.to_string()
+    }
+
+    fn picture(&self) -> Vec<u8> {
+        let mut picture = [0; MOST_PICTURE];
+        assert_eq!(sitting::picture(&self.session, &mut picture), 0);
+        let [p, t, m] = [0, 1, 2].map(|i| usize::from(self.session[i]));
+        picture[..8 + 12 * p + 8 * m + 4 * t].to_vec()
     }
 }
 
@@ -386,7 +459,7 @@ fn program_sessions() {
             continue;
         }
         let output = text(&path.with_extension("out"));
-        let mut session = ProgramSession::default();
+        let (mut session, mut kept) = (ProgramSession::default(), BytesSession::new());
         let lines: Vec<&[u8]> = input.split(|&byte| byte == b'\n').collect();
         assert_eq!(lines.len(), output.lines().count(), "{}", path.display());
         for (line, wanted) in lines.iter().zip(output.lines()) {
@@ -394,6 +467,7 @@ fn program_sessions() {
             if wanted != "?" {
                 let line = std::str::from_utf8(line).unwrap();
                 assert_eq!(session.answer(line), wanted, "{} {line}", path.display());
+                assert_eq!(kept.answer(line), wanted, "{} {line}", path.display());
                 compared += 1;
                 owner_exits += usize::from(wanted == "21");
             }

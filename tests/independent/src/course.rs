@@ -21,7 +21,7 @@ start P T M B    begin a session: processors, threads, mutexes, threads created 
 start P T M B S  the same with the choice of ready queues: 0 a single one, 1 one for each processor
 move p a o       processor p: 0 go, 1 lock, 2 trylock, 3 unlock mutex o, 4 yield, 5 exit, 6 create thread o
                  accepted, a move or a turn names the words that it read and wrote
-back             step back
+goto k           go to step k, back or forward: so many of the moves kept stand then
 show             the picture in hexadecimal
 script k a o ..  the script of thread k: up to 6 calls, each an action and an operand
 turn p           a turn of processor p, by its thread's script

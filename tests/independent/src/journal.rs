@@ -1,5 +1,5 @@
-//! A lent journal: what its applied moves replay to, the test of it that moves, turns, steps back
-//! and classes begin with (document 02, No. 6), and how a move joins it. Bytes past the applied
+//! A lent journal: what its applied moves replay to, the test of it that moves, turns, goings and
+//! classes begin with (document 02, Nos. 6 and 10), and how a move joins it. Bytes past the kept
 //! moves do not matter.
 
 use crate::machine::{Config, Move, State, GO};
@@ -37,10 +37,17 @@ impl Replay {
     /// Of the first `count` moves of a journal, or none if one is refused.
     pub fn of(config: Config, journal: &[u8], count: u16) -> Option<Replay> {
         let mut replay = Replay::start(config);
-        for made in journal.chunks_exact(3).take(usize::from(count)) {
-            replay.make_move([made[0], made[1], made[2]]).ok()?;
+        for made in first_moves(journal, count) {
+            replay.make_move(made).ok()?;
         }
         Some(replay)
+    }
+
+    /// Whether the journal's next moves, up to the number kept, are accepted one after the other.
+    fn goes_on(&self, journal: &[u8], kept: u16) -> bool {
+        let mut state = self.state.clone();
+        let mut rest = first_moves(journal, kept).skip(usize::from(state.applied));
+        rest.all(|made| state.try_move(made).is_ok())
     }
 
     fn make_move(&mut self, made: Move) -> Result<(), u8> {
@@ -64,6 +71,11 @@ impl Replay {
     }
 }
 
+/// The first `count` moves of a journal.
+fn first_moves(journal: &[u8], count: u16) -> impl Iterator<Item = Move> + '_ {
+    journal.chunks_exact(3).take(usize::from(count)).map(|made| [made[0], made[1], made[2]])
+}
+
 /// The state of a record that a journal is lent with; refused by 10, 15.
 pub fn state(record: &Record, journal: &[u8]) -> Result<State, u8> {
     if journal.len() < JOURNAL {
@@ -72,11 +84,12 @@ pub fn state(record: &Record, journal: &[u8]) -> Result<State, u8> {
     record.state().ok_or(15)
 }
 
-/// What the applied moves of a record with this state replay to; refused by 16 where one is
-/// refused, or where they give another state.
+/// What the applied moves of a record with this state replay to; refused by 16 where a kept move is
+/// refused, or where the applied ones give another state.
 pub fn replay(record: &Record, state: &State, journal: &[u8]) -> Result<Replay, u8> {
     let replay = Replay::of(record.config(), journal, state.applied);
-    replay.filter(|replay| replay.state == *state).ok_or(16)
+    let same = replay.filter(|replay| replay.state == *state);
+    same.filter(|replay| replay.goes_on(journal, record.kept)).ok_or(16)
 }
 
 /// Tests a journal against a record; refused by 10, 15, 16.

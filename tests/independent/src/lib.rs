@@ -1,15 +1,15 @@
 //! An independent implementation of the hand-off machine of document 01, of the
 //! journal's test at each call (document 02, No. 6), of scripted threads (No. 7),
-//! of exits that owners are refused (No. 9), of marks (No. 12), of a ready queue for
-//! each processor (No. 13), of the words that a move touches (No. 4) and of neighbours
-//! that may change places (No. 5).
+//! of exits that owners are refused (No. 9), of goings to a step (No. 10), of marks
+//! (No. 12), of a ready queue for each processor (No. 13), of the words that a move
+//! touches (No. 4) and of neighbours that may change places (No. 5).
 //!
 //! Terms of document 01 and the names used here: loaded is `current`, hand is
 //! `transit`, rank is `sequence`, seen is `observed`, standing moves are
-//! `applied`, step back is `undo`, turns ahead is `ahead`, a thread's place in
-//! its script is its progress, a class session is a `class`, the choice of ready
-//! queues is `stealing`, the look number is `probe`. A picture is the byte form
-//! of a `Snapshot`, which is the state as fixed tables with chains.
+//! `applied`, turns ahead is `ahead`, a thread's place in its script is its
+//! progress, a class session is a `class`, the choice of ready queues is
+//! `stealing`, the look number is `probe`. A picture is the byte form of a
+//! `Snapshot`, which is the state as fixed tables with chains.
 //!
 //! - `machine`: the state with plain queues, the start and the lines.
 //! - `touch`: which words a move reads and writes.
@@ -18,6 +18,7 @@
 //! - `picture`: a snapshot's bytes, written and read.
 //! - `journal`: a lent journal's replay and test.
 //! - `session`: the calls on a session record and a lent journal.
+//! - `session_bytes`: a session as bytes, and the calls on it.
 //! - `script`: scripts, turns and classes.
 //! - `marks`: marks for handed-in pictures.
 //! - `plain`: the plain session, ownership by history and the laws.
@@ -53,6 +54,7 @@ pub mod random_scripts;
 pub mod record;
 pub mod script;
 pub mod session;
+pub mod session_bytes;
 pub mod slips;
 pub mod spelling;
 pub mod touch;

@@ -1,5 +1,6 @@
 //! What line programs share: input cut into lines, an answer to each, numbers and bytes in a line.
 
+use crate::machine::MOST_MOVES;
 use std::io::{self, ErrorKind, Read, Write};
 
 /// A program that answers lines.
@@ -24,12 +25,21 @@ pub fn words(line: &[u8]) -> Vec<&[u8]> {
 
 /// A decimal number 0 to 255 without leading zeros.
 pub fn number(word: &[u8]) -> Option<u8> {
+    decimal(word).and_then(|value| u8::try_from(value).ok())
+}
+
+/// The same of a step, 0 to 4,000.
+pub fn step(word: &[u8]) -> Option<u16> {
+    decimal(word).filter(|&value| value <= MOST_MOVES)
+}
+
+/// A decimal number of at most four digits without leading zeros.
+fn decimal(word: &[u8]) -> Option<u16> {
     let leading_zero = word.len() > 1 && word[0] == b'0';
-    if word.is_empty() || word.len() > 3 || leading_zero || !word.iter().all(u8::is_ascii_digit) {
+    if word.is_empty() || word.len() > 4 || leading_zero || !word.iter().all(u8::is_ascii_digit) {
         return None;
     }
-    let value = word.iter().fold(0u16, |value, digit| 10 * value + u16::from(digit - b'0'));
-    u8::try_from(value).ok()
+    Some(word.iter().fold(0, |value, digit| 10 * value + u16::from(digit - b'0')))
 }
 
 /// One byte or more, each as two lower-case hexadecimal digits.

@@ -60,7 +60,7 @@ impl Old {
 
     pub fn record(&self) -> Record {
         let snapshot = picture::read(&self.picture).value;
-        Record { snapshot, born: self.session.config.born }
+        Record::new(snapshot, self.session.config.born)
     }
 
     /// The moves before the exit.

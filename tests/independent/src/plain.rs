@@ -1,7 +1,8 @@
-//! The plain session: a list of moves, its state worked out anew, ownership by history,
-//! and the laws of a whole session.
+//! The plain session: a list of kept moves of which the first stand, its state worked out anew,
+//! ownership by history, and the laws of a whole session.
 
-use crate::machine::{Config, Life, Move, Position, Processor, State, CREATE, EXIT};
+use crate::machine::{Config, Life, Move, Position, Processor, State, CREATE, EXIT, GO};
+use crate::script::SCRIPT;
 use std::collections::BTreeSet;
 
 /// What the listed moves say by themselves; the owner field is not looked at.
@@ -62,19 +63,26 @@ impl History {
 #[derive(Clone, PartialEq, Eq, Debug)]
 pub struct Plain {
     pub config: Config,
-    pub moves: Vec<Move>,
+    pub kept: Vec<Move>,
+    /// How many of the kept moves stand.
+    pub standing: usize,
 }
 
 impl Plain {
     pub fn new(config: Config) -> Plain {
-        Plain { config, moves: Vec::new() }
+        Plain { config, kept: Vec::new(), standing: 0 }
     }
 
-    /// State and history of the listed moves.
+    /// The moves that stand.
+    pub fn moves(&self) -> &[Move] {
+        &self.kept[..self.standing]
+    }
+
+    /// State and history of the moves that stand.
     pub fn work_out(&self) -> (State, History) {
         let mut state = State::start(self.config);
         let mut history = History::start(self.config);
-        for &made in &self.moves {
+        for &made in self.moves() {
             let before = *state.processor(made[0]);
             state.try_move(made).expect("listed moves are accepted");
             history.note(made, &before, state.processor(made[0]));
@@ -88,18 +96,54 @@ impl Plain {
         match state.cause(made) {
             Some(number) => number,
             None => {
-                self.moves.push(made);
+                self.join(made);
                 0
             }
         }
     }
 
-    /// Answers a step back with the session's own journal.
-    pub fn undo(&mut self) -> u8 {
-        match self.moves.pop() {
-            Some(_) => 0,
-            None => 9,
+    /// An accepted move: what is listed beyond those that stand is dropped.
+    pub fn join(&mut self, made: Move) {
+        self.kept.truncate(self.standing);
+        self.kept.push(made);
+        self.standing += 1;
+    }
+
+    /// The threads that made the calls among the moves that stand, in order, each with its processor.
+    pub fn callers(&self) -> Vec<(u8, u8)> {
+        let mut state = State::start(self.config);
+        let mut callers = Vec::new();
+        for &made in self.moves() {
+            if made[1] != GO {
+                callers.push((state.processor(made[0]).current, made[0]));
+            }
+            state.try_move(made).expect("listed moves are accepted");
         }
+        callers
+    }
+
+    /// The move of a turn for processor p in the session's state under scripts that 19 does not
+    /// refuse; which call is next is counted anew.
+    pub fn turn(&self, state: &State, scripts: &[u8], p: u8) -> Move {
+        if p == 0 || p > state.processor_count() || state.processor(p).position != Position::App {
+            return [p, GO, 0];
+        }
+        let thread = state.processor(p).current;
+        let made = self.callers().iter().filter(|&&(caller, _)| caller == thread).count();
+        let own = &scripts[SCRIPT * usize::from(thread - 1)..][..SCRIPT];
+        match made < usize::from(own[0]) {
+            true => [p, own[1 + 2 * made], own[2 + 2 * made]],
+            false => [p, EXIT, 0],
+        }
+    }
+
+    /// Answers a going with the session's own journal.
+    pub fn goto(&mut self, step: usize) -> u8 {
+        if step > self.kept.len() {
+            return 9;
+        }
+        self.standing = step;
+        0
     }
 }
 

@@ -1,8 +1,8 @@
-//! The line program: `start P T M B`, which may have a fifth number, `move p a o`, `back`, `show`;
+//! The line program: `start P T M B`, which may have a fifth number, `move p a o`, `goto k`, `show`;
 //! anything else gets `?`.
 
 use crate::journal::JOURNAL;
-use crate::lines::{self, number, words, LineProgram};
+use crate::lines::{self, number, step, words, LineProgram};
 use crate::machine::{Config, Move};
 use crate::picture;
 use crate::record::Record;
@@ -13,7 +13,7 @@ use crate::session;
 pub enum Command {
     Start(Config),
     Move(Move),
-    Back,
+    Goto(u16),
     Show,
 }
 
@@ -28,7 +28,7 @@ impl Command {
                 Some(Command::Start(config.with_stealing(number(stealing)?)))
             }
             [b"move", p, a, o] => Some(Command::Move([number(p)?, number(a)?, number(o)?])),
-            [b"back"] => Some(Command::Back),
+            [b"goto", k] => Some(Command::Goto(step(k)?)),
             [b"show"] => Some(Command::Show),
             _ => None,
         }
@@ -73,7 +73,7 @@ impl Program {
         let (record, journal) = self.session()?;
         let changed = match command {
             Command::Move(made) => session::make_move(record, journal, made).answer(),
-            Command::Back => session::undo(record, journal),
+            Command::Goto(k) => session::goto(record, journal, k.into()),
             _ => return Some(picture::hex(&shown(record))),
         };
         *record = changed.value;

@@ -2,26 +2,15 @@
 //! is reached. The same seed and the same states give the same calls.
 //!
 //! ```
-//! use independent::machine::State;
-//! use independent::random::{Call, Driver, Rates};
+//! use independent::random::{Driver, Rates, Trail};
 //!
-//! let mut driver = Driver::new(1, Rates::USUAL);
-//! let config = driver.generator.config();
-//! let mut states = vec![State::start(config)];
+//! let mut driver = Driver::new(1, Rates::GOINGS);
+//! let mut trail = Trail::new(driver.generator.config());
 //! for _ in 0..1_000 {
-//!     let state = states.last().unwrap();
-//!     match driver.next_call(state) {
-//!         // Compare the number and the state after it with the other implementation's.
-//!         Call::Move(made) => {
-//!             let mut next = state.clone();
-//!             if next.try_move(made).is_ok() {
-//!                 states.push(next);
-//!             }
-//!         }
-//!         Call::Undo if states.len() > 1 => drop(states.pop()),
-//!         // Refused by 9.
-//!         Call::Undo => {}
-//!     }
+//!     let call = driver.next_call(trail.state(), trail.kept());
+//!     // Compare the number and the state after it with the other implementation's.
+//!     let number = trail.call(call);
+//!     assert!(number <= 9 || number == 21);
 //! }
 //! ```
 
@@ -89,24 +78,73 @@ impl Generator {
 #[derive(Clone, Copy, PartialEq, Eq, Debug)]
 pub enum Call {
     Move(Move),
-    Undo,
+    Goto(u16),
 }
 
-/// How often a driver asks for calls that will likely be refused, for exits by owners and for undos.
+/// The kept moves of a session with the state after each, and how many of them stand.
+#[derive(Clone, PartialEq, Eq, Debug)]
+pub struct Trail {
+    pub moves: Vec<Move>,
+    states: Vec<State>,
+    standing: usize,
+}
+
+impl Trail {
+    pub fn new(config: Config) -> Trail {
+        Trail { moves: Vec::new(), states: vec![State::start(config)], standing: 0 }
+    }
+
+    pub fn state(&self) -> &State {
+        &self.states[self.standing]
+    }
+
+    pub fn kept(&self) -> u16 {
+        self.moves.len() as u16
+    }
+
+    /// The number of a call, which is made where that is 0.
+    pub fn call(&mut self, call: Call) -> u8 {
+        match call {
+            Call::Move(made) => self.make_move(made).err().unwrap_or(0),
+            Call::Goto(step) if step > self.kept() => 9,
+            Call::Goto(step) => {
+                self.standing = step.into();
+                0
+            }
+        }
+    }
+
+    fn make_move(&mut self, made: Move) -> Result<(), u8> {
+        let mut next = self.state().clone();
+        next.try_move(made)?;
+        self.moves.truncate(self.standing);
+        self.moves.push(made);
+        self.standing += 1;
+        self.states.truncate(self.standing);
+        self.states.push(next);
+        Ok(())
+    }
+}
+
+/// How often a driver asks for calls that will likely be refused, for exits by owners and for goings.
 #[derive(Clone, Copy, PartialEq, Eq, Debug)]
 pub struct Rates {
     /// One call in this many is likely refused; 0 for none.
     pub refused: usize,
-    /// One call in this many begins a run of undos; 0 for none.
-    pub undo: usize,
+    /// One call in this many begins a run of single steps back; 0 for none.
+    pub back: usize,
+    /// One call in this many begins a run of goings to any step; 0 for none.
+    pub goto: usize,
     /// One call in this many is an exit by an owner, where one is at App; 0 for none.
     pub owner_exits: usize,
 }
 
 impl Rates {
-    pub const USUAL: Rates = Rates { refused: 16, undo: 120, owner_exits: 40 };
+    pub const USUAL: Rates = Rates { refused: 16, back: 120, goto: 0, owner_exits: 40 };
+    /// The same with goings to any step.
+    pub const GOINGS: Rates = Rates { goto: 60, ..Rates::USUAL };
     /// Only moves that the state accepts.
-    pub const ACCEPTED: Rates = Rates { refused: 0, undo: 0, owner_exits: 0 };
+    pub const ACCEPTED: Rates = Rates { refused: 0, back: 0, goto: 0, owner_exits: 0 };
 }
 
 /// Chooses the calls of one session.
@@ -118,8 +156,9 @@ pub struct Driver {
     favourite: u8,
     /// Calls for which each processor is held back.
     held: [usize; 8],
-    /// Undos that are still to come.
-    undos: usize,
+    /// Single steps back and goings to any step that are still to come.
+    backs: usize,
+    goings: usize,
     /// The processor kept where it has observed a token, and for how many calls still.
     kept: (u8, usize),
 }
@@ -139,24 +178,16 @@ impl Driver {
             rates,
             favourite: 1,
             held: [0; 8],
-            undos: 0,
+            backs: 0,
+            goings: 0,
             kept: (0, 0),
         }
     }
 
-    /// The next call, given the session's state.
-    pub fn next_call(&mut self, state: &State) -> Call {
-        if self.undos > 0 {
-            self.undos -= 1;
-            return Call::Undo;
-        }
-        if self.rates.undo != 0 {
-            let stuck = is_stuck(state) && self.generator.once_in(4);
-            if stuck || self.generator.once_in(self.rates.undo) {
-                let longest = if stuck || self.generator.once_in(12) { 80 } else { 6 };
-                self.undos = self.generator.below(longest);
-                return Call::Undo;
-            }
+    /// The next call, given the session's state and the number of moves kept.
+    pub fn next_call(&mut self, state: &State, kept: u16) -> Call {
+        if let Some(step) = self.next_going(state, kept) {
+            return Call::Goto(step);
         }
         if self.rates.refused != 0 && self.generator.once_in(self.rates.refused) {
             return Call::Move(self.odd_move(state));
@@ -167,6 +198,45 @@ impl Driver {
             }
         }
         Call::Move(self.likely_move(state))
+    }
+
+    /// The step that is gone to next, if the next call is a going.
+    fn next_going(&mut self, state: &State, kept: u16) -> Option<u16> {
+        if self.backs > 0 {
+            self.backs -= 1;
+            return Some(step_back(state.applied, kept));
+        }
+        if self.goings > 0 {
+            self.goings -= 1;
+            return Some(self.any_step(state.applied, kept));
+        }
+        if self.rates.back != 0 {
+            let stuck = is_stuck(state) && self.generator.once_in(4);
+            if stuck || self.generator.once_in(self.rates.back) {
+                let longest = if stuck || self.generator.once_in(12) { 80 } else { 6 };
+                self.backs = self.generator.below(longest);
+                return Some(step_back(state.applied, kept));
+            }
+        }
+        if self.rates.goto != 0 && self.generator.once_in(self.rates.goto) {
+            self.goings = self.generator.below(4);
+            return Some(self.any_step(state.applied, kept));
+        }
+        None
+    }
+
+    /// A step near by or far off, either way, now and then one past the kept moves.
+    pub fn any_step(&mut self, applied: u16, kept: u16) -> u16 {
+        let near = self.generator.below(8) as u16;
+        match self.generator.below(12) {
+            0..=3 => applied.saturating_sub(near),
+            4..=5 => kept.min(applied + near),
+            6 => self.generator.pick(&[0, applied]),
+            7..=8 => self.generator.below(usize::from(kept) + 1) as u16,
+            9 => kept.saturating_sub(near),
+            10 => kept,
+            _ => kept + 1 + near * near,
+        }
     }
 
     /// An exit by a thread that owns a mutex, refused by 21.
@@ -374,6 +444,11 @@ impl Driver {
             },
         }
     }
+}
+
+/// The step before; where no move stands, one that is refused by 9.
+pub fn step_back(applied: u16, kept: u16) -> u16 {
+    applied.checked_sub(1).unwrap_or(kept + 1)
 }
 
 /// Whether a lock of mutex m is under way and its queue is empty, so that an unlock

@@ -1,27 +1,29 @@
-//! Random inputs for the line program `course` from a seed: lively sessions of moves, steps back,
-//! scripts, turns and classes, looked at and marked now and then, or looked at after most of them,
-//! with wrong lines between. They are made along the program's own session, so that most calls are
-//! accepted.
+//! Random inputs for the line program `course` from a seed: lively sessions of moves, goings, scripts,
+//! turns and classes, looked at and marked now and then, or looked at after most of them, with wrong
+//! lines between. They are made along the program's own session, so that most calls are accepted.
 //!
 //! ```
 //! use independent::{course, random_course};
 //!
-//! let input = random_course::input(1, 200);
+//! let input = random_course::input(1, 200, random_course::ANY_STEP);
 //! assert!(course::run(&input).lines().count() >= 200);
 //! ```
 
 use crate::course::Reader;
 use crate::machine::{Config, Position, State};
 use crate::program;
-use crate::random::{is_stuck, Call, Driver, Generator, Rates};
+use crate::random::{is_stuck, step_back, Call, Driver, Generator, Rates};
 use crate::spelling;
 use crate::worked::Worked;
 
-const RATES: Rates = Rates { refused: 12, undo: 60, owner_exits: 0 };
+/// Goings are single steps back.
+pub const STEPS_BACK: Rates = Rates { refused: 12, back: 60, goto: 0, owner_exits: 0 };
+/// Goings are to any step, also between turns; wrong lines are made of them too.
+pub const ANY_STEP: Rates = Rates { back: 120, goto: 12, ..STEPS_BACK };
 
 /// An input of so many lines, or a few more. The last line may have no line feed.
-pub fn input(seed: u64, lines: usize) -> Vec<u8> {
-    let mut writer = Writer::new(seed);
+pub fn input(seed: u64, lines: usize, rates: Rates) -> Vec<u8> {
+    let mut writer = Writer::new(seed, rates);
     for _ in 0..writer.driver.generator.below(4) {
         let line = writer.any_line();
         writer.add(&line);
@@ -35,13 +37,13 @@ pub fn input(seed: u64, lines: usize) -> Vec<u8> {
     writer.input
 }
 
-/// The same with views between: mostly one after a move, a turn, a class or a step back.
-pub fn viewed(seed: u64, lines: usize) -> Vec<u8> {
+/// The same with views between: mostly one after a move, a turn, a class or a going.
+pub fn viewed(seed: u64, lines: usize, rates: Rates) -> Vec<u8> {
     let mut generator = Generator::new(!seed);
     let mut all = Vec::new();
-    for line in input(seed, lines).split_inclusive(|&byte| byte == b'\n') {
+    for line in input(seed, lines, rates).split_inclusive(|&byte| byte == b'\n') {
         all.extend(line);
-        let steps = ["move ", "turn", "back"].iter().any(|word| line.starts_with(word.as_bytes()));
+        let steps = ["move ", "turn", "goto"].iter().any(|word| line.starts_with(word.as_bytes()));
         if steps && line.ends_with(b"\n") && !generator.once_in(4) {
             all.extend(b"view\n");
         }
@@ -52,6 +54,7 @@ pub fn viewed(seed: u64, lines: usize) -> Vec<u8> {
 /// The input so far, and the program's session after it.
 struct Writer {
     driver: Driver,
+    rates: Rates,
     reader: Reader,
     input: Vec<u8>,
     lines: usize,
@@ -62,9 +65,10 @@ struct Writer {
 }
 
 impl Writer {
-    fn new(seed: u64) -> Writer {
+    fn new(seed: u64, rates: Rates) -> Writer {
         Writer {
-            driver: Driver::new(seed, RATES),
+            driver: Driver::new(seed, rates),
+            rates,
             reader: Reader::default(),
             input: Vec::new(),
             lines: 0,
@@ -80,7 +84,7 @@ impl Writer {
         self.input.extend(&ended);
         self.lines += 1;
         if self.reader.program().record().is_some_and(|record| record.snapshot.applied == 0) {
-            self.driver = Driver::new(self.driver.generator.next_word(), RATES);
+            self.driver = Driver::new(self.driver.generator.next_word(), self.rates);
         }
     }
 
@@ -90,6 +94,10 @@ impl Writer {
 
     fn config(&self) -> Option<Config> {
         self.reader.program().record().map(|record| record.config())
+    }
+
+    fn kept(&self) -> u16 {
+        self.reader.program().record().map_or(0, |record| record.kept)
     }
 
     /// A new session now and then and where the old one is at its end, else one line more.
@@ -102,11 +110,16 @@ impl Writer {
             self.begin();
         } else if stuck && self.driver.generator.once_in(8) {
             let steps = 1 + self.driver.generator.below(usize::from(state.applied).min(60) + 1);
-            (0..steps).for_each(|_| self.add(b"back"));
+            (0..steps).for_each(|_| self.step_back());
         } else {
             let line = self.line(&state);
             self.add(&line);
         }
+    }
+
+    fn step_back(&mut self) {
+        let applied = self.state().map_or(0, |state| state.applied);
+        self.add(spelling::goto(step_back(applied, self.kept())).as_bytes());
     }
 
     /// A start of either choice, mostly with scripts for all threads.
@@ -124,6 +137,9 @@ impl Writer {
     }
 
     fn line(&mut self, state: &State) -> Vec<u8> {
+        if self.rates.goto != 0 && self.driver.generator.once_in(self.rates.goto) {
+            return self.going_line(state);
+        }
         match self.driver.generator.below(100) {
             0..=4 => b"view".to_vec(),
             5..=6 => b"show".to_vec(),
@@ -137,10 +153,20 @@ impl Writer {
     }
 
     fn call_line(&mut self, state: &State) -> Vec<u8> {
-        match self.driver.next_call(state) {
+        match self.driver.next_call(state, self.kept()) {
             Call::Move(made) => spelling::make_move(made).into_bytes(),
-            Call::Undo => b"back".to_vec(),
+            Call::Goto(step) => spelling::goto(step).into_bytes(),
         }
+    }
+
+    /// A going to any step, now and then with a slip.
+    fn going_line(&mut self, state: &State) -> Vec<u8> {
+        let line = spelling::goto(self.driver.any_step(state.applied, self.kept())).into_bytes();
+        let generator = &mut self.driver.generator;
+        if generator.once_in(6) {
+            return damaged(generator, line);
+        }
+        line
     }
 
     /// One turn or a class; those of idle processors are rare.
@@ -277,6 +303,7 @@ fn command(generator: &mut Generator, config: Config) -> String {
             let count = 1 + generator.below(5);
             spelling::turns(&generator.turns(config, count))
         }
+        // The last is none any more.
         _ => generator.pick(&["view", "chart", "help", "show", "back"]).to_string(),
     }
 }

@@ -1,5 +1,5 @@
 //! The state as fixed tables with chains (a snapshot), its rules, and both conversions.
-//! A session record is a snapshot and B.
+//! A session record is a snapshot, B and the number of moves kept.
 
 use crate::machine::{
     sizes_in_range, Config, Life, Mutex, Position, Processor, State, Token, MOST_MOVES,
@@ -66,6 +66,8 @@ pub struct Snapshot {
 pub struct Record {
     pub snapshot: Snapshot,
     pub born: u8,
+    /// How many moves are kept, the applied ones among them.
+    pub kept: u16,
 }
 
 fn token_in_range(token: Token, processors: u8) -> bool {
@@ -327,22 +329,38 @@ impl Snapshot {
 }
 
 impl Record {
-    /// The record of a state grown from a start table.
-    pub fn of(state: &State, born: u8) -> Record {
-        Record { snapshot: Snapshot::of(state), born }
+    /// With just the applied moves kept.
+    pub fn new(snapshot: Snapshot, born: u8) -> Record {
+        Record { snapshot, born, kept: snapshot.applied }
     }
 
-    /// The state of a record, or none if it breaks a picture rule or B is outside 1 to T.
+    /// The same of a state grown from a start table.
+    pub fn of(state: &State, born: u8) -> Record {
+        Record::new(Snapshot::of(state), born)
+    }
+
+    /// The state of a record, or none if it breaks a picture rule, B is outside 1 to T, or the
+    /// number kept is below the applied moves or above the most.
     pub fn state(&self) -> Option<State> {
         let born_fits = (1..=self.snapshot.threads).contains(&self.born);
-        self.snapshot.state().filter(|_| born_fits)
+        let kept_fits = (self.snapshot.applied..=MOST_MOVES).contains(&self.kept);
+        self.snapshot.state().filter(|_| born_fits && kept_fits)
     }
 
-    /// The answer of a call on this record: the record of the state that it gives, or its refusal
-    /// with this one.
-    pub fn answer(&self, after: Result<State, u8>) -> Answer<Record> {
+    /// After a move that led to a state: what was kept beyond it is dropped.
+    pub fn moved(&self, state: &State) -> Record {
+        Record::of(state, self.born)
+    }
+
+    /// After a going that led to a state: as many moves are kept as before.
+    pub fn gone(&self, state: &State) -> Record {
+        Record { kept: self.kept, ..Record::of(state, self.born) }
+    }
+
+    /// The answer of a call on this record: the record that it gives, or its refusal with this one.
+    pub fn answer(&self, after: Result<Record, u8>) -> Answer<Record> {
         match after {
-            Ok(state) => Answer::accepted(Record::of(&state, self.born)),
+            Ok(record) => Answer::accepted(record),
             Err(number) => Answer::refused(number, *self),
         }
     }

@@ -3,7 +3,7 @@
 //! A script is 13 bytes: its number of calls, then six pairs of action and operand, of which
 //! those past the number are unread. The scripts of a session are lent as the scripts of its
 //! threads, thread 1 first. A thread's place in its script, here its progress, is the number of
-//! calls that it has made among the applied moves.
+//! calls that it has made among the applied moves; those kept beyond them do not count.
 
 use crate::journal::{self, Replay};
 use crate::machine::{Config, Move, Position, State, CREATE, EXIT, GO, LOCK};
@@ -107,8 +107,9 @@ fn turned(
 }
 
 /// Takes a turn for each listed processor, with the number of each in `answers` and the picture
-/// after each in `pictures`, one behind the other. Refused as a whole by 10, 15, 10 (`answers`
-/// or `pictures` too short), 16, 19 with the record handed in and nothing changed.
+/// after each in `pictures`, one behind the other. Where no turn is accepted, record and journal stay.
+/// Refused as a whole by 10, 15, 10 (`answers` or `pictures` too short), 16, 19 with the record handed
+/// in and nothing changed.
 pub fn class(
     record: &Record,
     journal: &mut [u8],
@@ -127,7 +128,7 @@ fn turned_all(
     turns: &[u8],
     answers: &mut [u8],
     pictures: &mut [u8],
-) -> Result<State, u8> {
+) -> Result<Record, u8> {
     let state = journal::state(record, journal)?;
     let shown = &record.snapshot;
     let length = picture::length(shown.processors, shown.threads, shown.mutexes);
@@ -142,7 +143,8 @@ fn turned_all(
         *answer = replay.extend(journal, made).err().unwrap_or(0);
         picture::fill(&Snapshot::of(&replay.state), picture);
     }
-    Ok(replay.state)
+    let taken = replay.state.applied > state.applied;
+    Ok(if taken { record.moved(&replay.state) } else { *record })
 }
 
 #[cfg(test)]

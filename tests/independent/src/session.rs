@@ -27,7 +27,7 @@ impl Step {
     /// The answer of a step on a record, from the state that it gives or its refusal.
     pub fn of(record: &Record, after: Result<(State, Touch), u8>) -> Step {
         let touch = after.as_ref().map_or(Touch::NONE, |(_, touch)| *touch);
-        let Answer { number, value } = record.answer(after.map(|(state, _)| state));
+        let Answer { number, value } = record.answer(after.map(|(state, _)| record.moved(&state)));
         Step { number, value, touch }
     }
 
@@ -36,8 +36,9 @@ impl Step {
     }
 }
 
-/// Makes a move and notes it in the journal; refused by 10, 15, 16, 2, 3, 8, 4 or 5, then 6, 7 or 21
-/// with the record handed in, the journal unchanged. No step from a tested journal is refused by 15.
+/// Makes a move and notes it in the journal, where it drops what was kept beyond the applied moves;
+/// refused by 10, 15, 16, 2, 3, 8, 4 or 5, then 6, 7 or 21 with the record handed in, the journal
+/// unchanged. No step from a tested journal is refused by 15.
 pub fn make_move(record: &Record, journal: &mut [u8], made: Move) -> Step {
     Step::of(record, moved(record, journal, made))
 }
@@ -48,19 +49,18 @@ fn moved(record: &Record, journal: &mut [u8], made: Move) -> Result<(State, Touc
     Ok((replay.state, touch))
 }
 
-/// Undoes the last applied move by replay; refused by 10, 15, 9, 16 with the record handed in.
-pub fn undo(record: &Record, journal: &[u8]) -> Answer<Record> {
-    record.answer(undone(record, journal))
+/// Goes to a step, back or forward, by replay: so many of the kept moves are applied then. Refused by
+/// 10, 15, 9 (more than are kept), 16 with the record handed in.
+pub fn goto(record: &Record, journal: &[u8], step: usize) -> Answer<Record> {
+    record.answer(gone(record, journal, step))
 }
 
-fn undone(record: &Record, journal: &[u8]) -> Result<State, u8> {
+fn gone(record: &Record, journal: &[u8], step: usize) -> Result<Record, u8> {
     let state = journal::state(record, journal)?;
-    if state.applied == 0 {
-        return Err(9);
-    }
+    let step = u16::try_from(step).ok().filter(|&step| step <= record.kept).ok_or(9)?;
     journal::replay(record, &state, journal)?;
-    let before = Replay::of(record.config(), journal, state.applied - 1);
-    Ok(before.expect("a front replays").state)
+    let there = Replay::of(record.config(), journal, step).expect("kept moves replay");
+    Ok(record.gone(&there.state))
 }
 
 /// The applied moves as the journal's front; refused by 10, 15 with the empty front.

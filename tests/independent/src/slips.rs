@@ -6,7 +6,7 @@ const COMMANDS: [&str; 14] = [
     "start 2 3 1 2",
     "start 2 3 1 2 1",
     "move 1 1 1",
-    "back",
+    "goto 1",
     "show",
     "script 1",
     "script 1 1 1 3 1",
@@ -20,7 +20,7 @@ const COMMANDS: [&str; 14] = [
 ];
 
 /// Too few words or too many; of a script's numbers or a picture's digits an odd count.
-const COUNTS: [&str; 36] = [
+const COUNTS: [&str; 38] = [
     "start",
     "start 1",
     "start 1 1",
@@ -30,8 +30,10 @@ const COUNTS: [&str; 36] = [
     "move 1",
     "move 1 0",
     "move 1 1 1 1",
-    "back 1",
-    "back back",
+    "goto",
+    "goto 0 0",
+    "goto 1 1 1",
+    "goto goto",
     "show 1",
     "script",
     "script 1 1",
@@ -59,9 +61,11 @@ const COUNTS: [&str; 36] = [
     "help view",
 ];
 
-/// What is no word of a command.
-const OTHERS: [&str; 14] =
-    ["", " ", "  ", "?", "-", "0", "1", "1 1", "stop", "go 1", "x", "\0", "\r", "\t"];
+/// What is no word of a command; the first once was one.
+const OTHERS: [&str; 16] = [
+    "back", "back 1", "", " ", "  ", "?", "-", "0", "1", "1 1", "stop", "go 1", "x", "\0", "\r",
+    "\t",
+];
 
 /// All of them, none of which is a command.
 pub fn no_commands() -> Vec<String> {
@@ -73,7 +77,11 @@ pub fn no_commands() -> Vec<String> {
 fn slips(line: &str) -> Vec<String> {
     let (word, numbers) = line.split_once(' ').unwrap_or((line, ""));
     let rest = &line[word.len()..];
-    let odd_words = if word == "mark" { odd_digits } else { odd_numbers };
+    let odd_words = match word {
+        "mark" => odd_digits,
+        "goto" => odd_steps,
+        _ => odd_numbers,
+    };
     let mut all = vec![
         format!("{line} "),
         format!("{line}\r"),
@@ -104,11 +112,22 @@ fn around(line: &str, at: usize) -> (&str, &str, &str) {
 
 /// The line with the number that begins at a place replaced by what is none.
 fn odd_numbers(line: &str, at: usize) -> Vec<String> {
+    odd(line, at, &["256", "257", "999", "1000"])
+}
+
+/// The same of a step.
+fn odd_steps(line: &str, at: usize) -> Vec<String> {
+    odd(line, at, &["4001", "4002", "4999", "9999", "04000", "10000", "40000", "65536", "65537"])
+}
+
+/// The line with the number that begins at a place replaced by these, which are too large, and by
+/// others.
+fn odd(line: &str, at: usize, large: &[&str]) -> Vec<String> {
     let (front, number, rest) = around(line, at);
     let zeros = [format!("0{number}"), format!("00{number}")];
     let signed = [format!("+{number}"), format!("-{number}"), format!("{number}.")];
-    let wide = ["256", "257", "999", "1000", "4294967297", "18446744073709551617", "x", "0x1"];
-    let all = zeros.into_iter().chain(signed).chain(wide.map(str::to_string));
+    let wide = large.iter().chain(&["4294967297", "18446744073709551617", "x", "0x1"]);
+    let all = zeros.into_iter().chain(signed).chain(wide.map(|word| word.to_string()));
     all.map(|odd| format!("{front}{odd}{rest}")).collect()
 }
 

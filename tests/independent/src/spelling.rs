@@ -1,7 +1,9 @@
 //! Commands as lines of input.
 
+use crate::course::Reader;
 use crate::machine::{Config, Move};
 use crate::picture::hex;
+use crate::random::step_back;
 
 /// Lines as input, each ended by a line feed.
 pub fn input<T: AsRef<[u8]>>(lines: &[T]) -> Vec<u8> {
@@ -21,6 +23,22 @@ pub fn start(config: Config) -> String {
 
 pub fn make_move([p, a, o]: Move) -> String {
     format!("move {p} {a} {o}")
+}
+
+pub fn goto(step: u16) -> String {
+    format!("goto {step}")
+}
+
+/// Adds so many single steps back from where these lines lead; those from the start are refused by 9.
+pub fn add_steps_back(lines: &mut Vec<String>, count: usize) {
+    let mut reader = Reader::default();
+    reader.feed(&input(lines));
+    let record = reader.program().record().expect("a session");
+    let mut applied = record.snapshot.applied;
+    for _ in 0..count {
+        lines.push(goto(step_back(applied, record.kept)));
+        applied = applied.saturating_sub(1);
+    }
 }
 
 /// The line for a script's bytes.

@@ -59,7 +59,12 @@ impl Worked {
     }
 
     pub fn record(&self) -> Record {
-        Record { snapshot: self.snapshot(), born: self.config.born }
+        Record::new(self.snapshot(), self.config.born)
+    }
+
+    /// The record after a going to a step, all moves being kept.
+    pub fn record_at(&self, step: usize) -> Record {
+        Record { kept: self.moves.len() as u16, ..self.front(step).record() }
     }
 
     /// A journal with its moves; bytes past them are filled with one that no move has.
@@ -215,14 +220,14 @@ pub fn own_queues() -> Worked {
 pub fn k8_record() -> Record {
     let mut snapshot = session_s(2).go(1, 1).go(2, 4).snapshot();
     snapshot.mutex_rows[0].token.sequence = 2;
-    Record { snapshot, born: 2 }
+    Record::new(snapshot, 2)
 }
 
 /// A start's record, but for the number of moves.
 pub fn k10_record(applied: u16) -> Record {
     let mut snapshot = Worked::new(Config::new(2, 1, 1, 1)).snapshot();
     snapshot.applied = applied;
-    Record { snapshot, born: 1 }
+    Record::new(snapshot, 1)
 }
 
 /// Records with a line that would leave the rules, each with its processor: L1 and TL3 at
@@ -244,10 +249,10 @@ pub fn steps_out_of_rules() -> Vec<(&'static str, Record, u8)> {
     at_l9.mutex_rows[0].first = 0;
     at_l9.thread_rows[1] = ThreadRow { place: ENDED, holder: 0, next: 0 };
     vec![
-        ("L1", Record { snapshot: at_l1, born: 1 }, 1),
-        ("TL3", Record { snapshot: at_tl3, born: 3 }, 3),
-        ("U1", Record { snapshot: at_u1, born: 1 }, 1),
-        ("H5", Record { snapshot: at_h5, born: 2 }, 1),
-        ("L9", Record { snapshot: at_l9, born: 2 }, 2),
+        ("L1", Record::new(at_l1, 1), 1),
+        ("TL3", Record::new(at_tl3, 3), 3),
+        ("U1", Record::new(at_u1, 1), 1),
+        ("H5", Record::new(at_h5, 2), 1),
+        ("L9", Record::new(at_l9, 2), 2),
     ]
 }

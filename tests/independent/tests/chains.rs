@@ -19,7 +19,7 @@ fn tables() -> Vec<Config> {
 /// A record is refused by 15 where its picture does not read, else by 16 at a move, since it is no
 /// start's.
 fn as_record(case: &Case) {
-    let record = Record { snapshot: case.shown, born: 1 };
+    let record = Record::new(case.shown, 1);
     let mut journal = vec![FILLER; JOURNAL];
     let answer = session::make_move(&record, &mut journal, [1, GO, 0]);
     let number = if case.number == 0 { 16 } else { 15 };
@@ -31,7 +31,7 @@ fn as_record(case: &Case) {
         assert_eq!(Snapshot::of(&state).broken_rule(), None);
         return;
     }
-    assert_eq!(session::undo(&record, &journal).number, 15);
+    assert_eq!(session::goto(&record, &journal, 0).number, 15);
     assert_eq!(session::front(&record, &journal).number, 15);
     assert_eq!(picture::write(&case.shown, &mut [0; 296]), 15);
     assert_eq!(ahead(&case.shown, 1), Ahead::Refused(15));

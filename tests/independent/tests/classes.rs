@@ -3,7 +3,7 @@
 
 use independent::journal::JOURNAL;
 use independent::machine::{
-    Config, Move, Position, State, CREATE, EXIT, GO, LOCK, MOST_MOVES, UNLOCK, YIELD,
+    Config, Position, State, CREATE, EXIT, GO, LOCK, MOST_MOVES, UNLOCK, YIELD,
 };
 use independent::picture;
 use independent::plain::{check_laws, History, Plain};
@@ -209,10 +209,12 @@ fn other_journals() {
     let mut other = lesson.clone();
     other.record.snapshot.applied -= 1;
     assert_eq!(other.take(), 16);
+    other.record.kept -= 1;
+    assert_eq!(other.take(), 16);
     // With no moves applied any journal will do, and only the start's record.
     let mut begun = Lesson::new(&Worked::new(k7.config), scripts, vec![1, 2, 3]);
     assert_eq!(begun.clone().take(), 0);
-    begun.record = Record { snapshot: k7.snapshot(), born: 3 };
+    begun.record = Record { kept: 0, ..k7.record() };
     begun.record.snapshot.applied = 0;
     assert_eq!(begun.take(), 16);
 }
@@ -267,59 +269,28 @@ struct Coverage {
     calls: [usize; 7],
     /// Calls of a thread on another processor than its last one.
     migrations: usize,
-}
-
-/// The plain session under scripts: which call is next is counted anew from the list.
-struct PlainClass<'a> {
-    plain: Plain,
-    scripts: &'a [u8],
-}
-
-impl PlainClass<'_> {
-    /// The threads that made the listed moves' calls, in order, each with its processor.
-    fn callers(&self) -> Vec<(u8, u8)> {
-        let mut state = State::start(self.plain.config);
-        let mut callers = Vec::new();
-        for &made in &self.plain.moves {
-            if made[1] != GO {
-                callers.push((state.processor(made[0]).current, made[0]));
-            }
-            state.try_move(made).unwrap();
-        }
-        callers
-    }
-
-    fn next_move(&self, state: &State, p: u8) -> Move {
-        if p == 0 || p > state.processor_count() || state.processor(p).position != Position::App {
-            return [p, GO, 0];
-        }
-        let thread = state.processor(p).current;
-        let made = self.callers().iter().filter(|&&(caller, _)| caller == thread).count();
-        let own = &self.scripts[SCRIPT * usize::from(thread - 1)..][..SCRIPT];
-        match made < usize::from(own[0]) {
-            true => [p, own[1 + 2 * made], own[2 + 2 * made]],
-            false => [p, EXIT, 0],
-        }
-    }
+    /// Classes without an accepted turn that left moves kept beyond the standing ones.
+    kept: usize,
 }
 
 /// The class's answers, pictures and journal are those of the plain session, whose laws hold
-/// after every turn.
-fn check_by_history(before: &Worked, lesson: &Lesson, coverage: &mut Coverage) {
+/// after every turn. All moves before it were made, and then gone to a step of them.
+fn check_by_history(before: &Worked, step: usize, lesson: &Lesson, coverage: &mut Coverage) {
     let config = before.config;
-    let mut session = PlainClass { plain: Plain::new(config), scripts: &lesson.scripts };
-    session.plain.moves = before.moves.clone();
-    let (mut state, mut history): (State, History) = session.plain.work_out();
+    let mut plain = Plain::new(config);
+    before.moves.iter().for_each(|&made| plain.join(made));
+    assert_eq!(plain.goto(step), 0);
+    let (mut state, mut history): (State, History) = plain.work_out();
     let shown = lesson.pictures.chunks(picture_length(config));
     for ((&p, &answer), shown) in lesson.turns.iter().zip(&lesson.answers).zip(shown) {
-        let made = session.next_move(&state, p);
+        let made = plain.turn(&state, &lesson.scripts, p);
         assert_eq!(answer, state.cause(made).unwrap_or(0), "{made:?}");
         *coverage.answers.entry(answer).or_default() += 1;
         if answer == 0 {
             let here = *state.processor(p);
             state.try_move(made).unwrap();
             history.note(made, &here, state.processor(p));
-            session.plain.moves.push(made);
+            plain.join(made);
             coverage.moves += 1;
             coverage.calls[usize::from(made[1])] += 1;
             let branch = (here.position, state.processor(p).position);
@@ -329,17 +300,20 @@ fn check_by_history(before: &Worked, lesson: &Lesson, coverage: &mut Coverage) {
         assert_eq!(shown, picture::raw_bytes(&Snapshot::of(&state)));
         assert_eq!(picture::read(shown).number, 0);
     }
-    assert_eq!(lesson.record, Record::of(&state, config.born));
+    let kept = plain.kept.len();
+    assert_eq!(lesson.record, Record { kept: kept as u16, ..Record::of(&state, config.born) });
     let front = session::front(&lesson.record, &lesson.journal);
-    assert_eq!(front.value, session.plain.moves.concat());
+    assert_eq!(front.value, plain.moves().concat());
+    assert_eq!(lesson.journal[..3 * kept], plain.kept.concat());
+    coverage.kept += usize::from(kept > plain.standing);
     let mut last = BTreeMap::new();
-    for (thread, p) in session.callers() {
+    for (thread, p) in plain.callers() {
         coverage.migrations += usize::from(last.insert(thread, p).is_some_and(|old| old != p));
     }
     coverage.classes += 1;
 }
 
-/// A class of so many turns after so many plain moves.
+/// A class of so many turns after so many plain moves, mostly all of which stand.
 fn random_class(stealing: u8, seed: u64, plain: usize, turns: usize, coverage: &mut Coverage) {
     let mut driver = Driver::new(seed, Rates::ACCEPTED);
     let config = driver.generator.config().with_stealing(stealing);
@@ -352,12 +326,15 @@ fn random_class(stealing: u8, seed: u64, plain: usize, turns: usize, coverage: &
     }
     let scripts = driver.generator.scripts(config);
     let turns = driver.generator.turns(config, turns);
+    let step = if driver.generator.once_in(3) { driver.generator.below(plain + 1) } else { plain };
     let mut lesson = Lesson::new(&worked, scripts, turns);
+    lesson.record = session::goto(&lesson.record, &lesson.journal, step).value;
+    assert_eq!(lesson.record, worked.record_at(step));
     let mut turned = lesson.clone();
     assert_eq!(lesson.take(), 0);
     turned.take_one_by_one();
     assert!(lesson == turned, "class {seed} differs from its turns");
-    check_by_history(&worked, &lesson, coverage);
+    check_by_history(&worked, step, &lesson, coverage);
 }
 
 #[test]
@@ -375,7 +352,8 @@ fn laws_of_classes(stealing: u8) {
     for seed in 0..1_500 {
         let mut generator = Generator::new(!seed);
         let plain = if generator.once_in(3) { generator.below(60) } else { 0 };
-        random_class(stealing, seed, plain, generator.below(240), &mut coverage);
+        let most = if generator.once_in(10) { 3 } else { 240 };
+        random_class(stealing, seed, plain, generator.below(most), &mut coverage);
     }
     // Some are long, some end at the most moves.
     for seed in 2_000..2_006 {
@@ -389,6 +367,7 @@ fn laws_of_classes(stealing: u8) {
     let met: Vec<u8> = coverage.answers.keys().copied().collect();
     assert_eq!(met, [0, 2, 3, 6, 7, 8, 21]);
     assert!(coverage.answers[&21] > 1_000);
+    assert!(coverage.kept > 3, "{}", coverage.kept);
     assert!(coverage.calls.iter().all(|&count| count > 1_000));
     assert!(coverage.migrations > 1_000);
     // As many as plain sessions meet.

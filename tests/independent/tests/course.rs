@@ -10,7 +10,7 @@ use independent::lines::Reader as LineReader;
 use independent::picture;
 use independent::program::Program;
 use independent::random::Generator;
-use independent::random_course;
+use independent::random_course::{self, ANY_STEP};
 use independent::{slips, spelling};
 use std::io::{Read, Write};
 use std::process::{Command, Stdio};
@@ -20,7 +20,7 @@ start P T M B    begin a session: processors, threads, mutexes, threads created 
 start P T M B S  the same with the choice of ready queues: 0 a single one, 1 one for each processor
 move p a o       processor p: 0 go, 1 lock, 2 trylock, 3 unlock mutex o, 4 yield, 5 exit, 6 create thread o
                  accepted, a move or a turn names the words that it read and wrote
-back             step back
+goto k           go to step k, back or forward: so many of the moves kept stand then
 show             the picture in hexadecimal
 script k a o ..  the script of thread k: up to 6 calls, each an action and an operand
 turn p           a turn of processor p, by its thread's script
@@ -47,7 +47,7 @@ fn help() {
 
 #[test]
 fn before_a_start() {
-    for line in ["move 1 0 0", "back", "show", "script 1", "script 1 1 1", "script 0 9 9"] {
+    for line in ["move 1 0 0", "goto 0", "show", "script 1", "script 1 1 1", "script 0 9 9"] {
         assert_eq!(run(line.as_bytes()), "?\n", "{line}");
     }
     for line in ["turn 1", "turn 0", "turns 1", "turns 0 9", "view", "chart", "mark 01"] {
@@ -148,7 +148,7 @@ fn scripts_during_a_session() {
     session.accepts("script 1 1 1 1 2");
     session.accepts("turn 1");
     assert!(session.ask("chart").contains("\n3     lock 2\n"));
-    session.accepts("back");
+    session.accepts("goto 2");
     session.accepts("script 1 4 0 3 1");
     assert_eq!(session.ask("turn 1"), "6\n");
     session.accepts("script 1 4 0 1 3");
@@ -180,7 +180,7 @@ fn turn_refusals() {
     session.accepts("turn 1");
 }
 
-/// 4,000 moves: 8, with 2 before it, and one step back makes room for one turn.
+/// 4,000 moves: 8, with 2 before it, and a step back makes room for one turn.
 #[test]
 fn most_moves() {
     let mut session = Session::after(&["start 2 1 1 1", "script 1 1 9"]);
@@ -198,7 +198,7 @@ fn most_moves() {
     let chart = session.ask("chart");
     assert_eq!(chart.lines().count(), 4_002);
     assert!(chart.ends_with("\n4000             CI2\n\n"));
-    for line in ["back", "turn 2"] {
+    for line in ["goto 3999", "turn 2"] {
         session.accepts(line);
     }
     assert_eq!(session.ask("turn 2"), "8\n");
@@ -253,8 +253,8 @@ fn words_of_moves_and_turns() {
         ("turn 2", "0 reads token 2 writes none"),
         ("turn 0", "2"),
         ("move 2 7 0", "3"),
-        ("back", "0"),
-        ("back", "0"),
+        ("goto 12", "0"),
+        ("goto 11", "0"),
         ("start 2 3 1 1 1", "0"),
         ("turn 2", "0 reads ready 2 writes none"),
         ("turn 2", "0 reads ready 1 writes none"),
@@ -288,14 +288,84 @@ fn view_of_the_last_move() {
         ("turn 2", "single", "single       3 4"),
         ("turn 2", "1      1", "1      1 rw   2      -           -"),
         ("turns 1 2", "1      1", "1      1      2      -           -"),
-        ("back", "1      1", "1      1 rw   2      -           -"),
-        ("back", "single", "single       3 4"),
-        ("back", "single", "single       3 4 rw"),
-        ("back", "transit ", "transit     4 rw"),
-        ("back", "new", "new         4"),
-        ("back", "new", "new         4"),
+        ("goto 4", "1      1", "1      1 rw   2      -           -"),
+        ("goto 3", "single", "single       3 4"),
+        ("goto 2", "single", "single       3 4 rw"),
+        ("goto 1", "transit ", "transit     4 rw"),
+        ("goto 0", "new", "new         4"),
+        ("goto 6", "new", "new         4"),
+        ("goto 2", "single", "single       3 4 rw"),
+        ("goto 4", "1      1", "1      1 rw   2      -           -"),
+        ("goto 5", "1      1", "1      1      2      -           -"),
     ] {
         assert_eq!(row(line, begin), wanted, "{line}");
+    }
+}
+
+/// Goings at the boundaries; a move, a turn and a class after one drop what was kept, refused ones do
+/// not, nor does a class whose turns are all refused.
+#[test]
+fn goings() {
+    let begun = ["start 2 3 1 2", "script 1 4 0 1 1", "turn 1", "turn 1", "turn 2"];
+    for (line, answer, kept) in [
+        ("turn 1", "0 reads ready 1 writes none\n", 2),
+        ("move 2 1 1", "0 reads none writes none\n", 2),
+        ("turns 9 1", "", 2),
+        ("move 9 0 0", "2\n", 3),
+        ("turn 0", "2\n", 3),
+        ("turns 0 3 9", "", 3),
+        ("script 1", "0\n", 3),
+        ("view", "", 3),
+        ("chart", "", 3),
+        ("start 9 9 9 9", "1\n", 3),
+        ("back", "?\n", 3),
+        ("goto 4", "9\n", 3),
+        ("goto 4001", "?\n", 3),
+        ("goto 2", "0\n", 3),
+    ] {
+        let mut session = Session::after(&begun);
+        session.accepts("goto 1");
+        let got = session.ask(line);
+        assert!(answer.is_empty() || got == answer, "{line}: {got}");
+        for (step, answer) in [(kept + 1, "9\n"), (kept, "0\n"), (0, "0\n"), (kept, "0\n")] {
+            assert_eq!(session.ask(format!("goto {step}")), answer, "{line}, then {step}");
+        }
+    }
+    let mut session = small();
+    // The session is looked at by 12 turns, which are kept at most.
+    for line in ["goto 14", "goto 256", "goto 4000"] {
+        session.keeps(line, "9\n");
+    }
+    for line in ["goto", "goto 01", "goto 4001", "goto 1 1", "back"] {
+        session.keeps(line, "?\n");
+    }
+}
+
+/// View, chart, picture and turns are those of the standing moves alone, wherever they lie.
+#[test]
+fn shown_by_standing_moves() {
+    for seed in 0..40 {
+        let mut generator = Generator::new(seed);
+        let config = generator.config().with_stealing(generator.between(0, 1));
+        let scripts = generator.scripts(config);
+        let mut lines = vec![spelling::start(config)];
+        lines.extend(spelling::scripts(config, &scripts));
+        let begun = spelling::input(&lines);
+        let turns = generator.turns(config, 60);
+        let looks = |reader: &mut Reader| reader.feed(b"view\nchart\nshow\n");
+        let (mut going, mut shown) = (Reader::default(), Vec::new());
+        going.feed(&begun);
+        shown.push(looks(&mut going));
+        for p in &turns {
+            if going.feed(format!("turn {p}\n").as_bytes()).starts_with('0') {
+                shown.push(looks(&mut going));
+            }
+        }
+        for _ in 0..60 {
+            let step = generator.below(shown.len());
+            assert_eq!(going.feed(format!("goto {step}\n").as_bytes()), "0\n");
+            assert!(looks(&mut going) == shown[step], "seed {seed}, step {step}");
+        }
     }
 }
 
@@ -314,7 +384,7 @@ fn owners_may_not_exit() {
         session.accepts(line);
     }
     assert!(session.ask("view").ends_with("terminated  1 2\n\n"));
-    let of = |seed| run(&random_course::input(seed, 200));
+    let of = |seed| run(&random_course::input(seed, 200, ANY_STEP));
     let refused = (0..60).map(|seed| of(seed).lines().filter(|&line| line == "21").count());
     assert!(refused.sum::<usize>() > 100);
 }
@@ -371,9 +441,9 @@ fn longest_lines() {
 #[test]
 fn plain_lines_alike() {
     for seed in 0..60 {
-        let input = random_course::input(seed, 300);
+        let input = random_course::input(seed, 300, ANY_STEP);
         let is_plain = |line: &&[u8]| {
-            let plain = ["start", "move", "back", "show"];
+            let plain = ["start", "move", "goto", "show"];
             line.len() <= 64 && plain.iter().any(|word| line.starts_with(word.as_bytes()))
         };
         let (mut plain, mut course) = (LineReader::<Program>::default(), Reader::default());
@@ -388,7 +458,7 @@ fn plain_lines_alike() {
 #[test]
 fn cuts() {
     for seed in 0..20 {
-        let input = random_course::input(seed, 120);
+        let input = random_course::input(seed, 120, ANY_STEP);
         let whole = run(&input);
         for size in [1, 2, 3, 7, 64, 1_000, 2_048, 2_049] {
             let mut reader = Reader::default();

@@ -8,9 +8,10 @@ use independent::course::{run, Reader};
 use independent::machine::Config;
 use independent::marks::{self, parts_of};
 use independent::picture::hex;
+use independent::program;
+use independent::random_course::{self, ANY_STEP};
 use independent::spelling::{input, make_move, mark, mark_of, start};
 use independent::worked::{self, Worked};
-use independent::{program, random_course};
 use std::collections::BTreeMap;
 
 /// The worked session as the program has it.
@@ -91,7 +92,7 @@ fn small_and_large_marks() {
     assert_eq!(answer(Config::new(1, 1, 1, 1), &[0]), "50.00\n");
 }
 
-/// The session's picture is the one of now: after moves, steps back, turns and starts.
+/// The session's picture is the one of now: after moves, goings, turns and starts.
 #[test]
 fn session_picture_is_current() {
     for worked in [worked::k7(), worked::steals(2), worked::own_queues()] {
@@ -108,8 +109,8 @@ fn session_picture_is_current() {
         }
         let last = worked.picture();
         assert_ne!(session.ask(mark(&first)), "100.00\n");
-        for _ in &worked.moves {
-            session.accepts("back");
+        for step in (0..worked.moves.len()).rev() {
+            session.accepts(format!("goto {step}"));
         }
         assert_eq!(session.ask(mark(&first)), "100.00\n");
         assert_ne!(session.ask(mark(&last)), "100.00\n");
@@ -317,7 +318,7 @@ fn random_inputs() {
     let mut met = BTreeMap::new();
     for seed in 0..150 {
         let mut reader = Reader::default();
-        for line in random_course::input(seed, 400).split(|&byte| byte == b'\n') {
+        for line in random_course::input(seed, 400, ANY_STEP).split(|&byte| byte == b'\n') {
             let shown = reader.program().record().map(program::shown);
             let answer = reader.feed(&[line, b"\n"].concat());
             if !line.starts_with(b"mark ") || line.len() > 2_048 {

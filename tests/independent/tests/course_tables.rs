@@ -9,7 +9,7 @@ use independent::machine::{
     UNLOCK, YIELD,
 };
 use independent::random::{Driver, Rates};
-use independent::random_course;
+use independent::random_course::{self, ANY_STEP};
 use independent::touch::{Touch, Word};
 use independent::view::view;
 use independent::worked::{self, Worked};
@@ -241,7 +241,7 @@ fn no_moves() {
     assert_eq!(run(b"start 1 1 1 1\nchart"), "0\nmove  1          changes\n\n");
     // A step back takes its row away.
     assert_eq!(
-        run(b"start 1 1 1 1\nmove 1 4 0\nback\nchart"),
+        run(b"start 1 1 1 1\nmove 1 4 0\ngoto 0\nchart"),
         "0\n0 reads none writes none\n0\nmove  1          changes\n\n"
     );
 }
@@ -545,7 +545,7 @@ fn random_sessions() {
 #[test]
 fn random_inputs() {
     for seed in 0..100 {
-        let output = run(&random_course::viewed(seed, 250));
+        let output = run(&random_course::viewed(seed, 250, ANY_STEP));
         assert!(!output.contains(" \n") && !output.contains("\n\n\n"));
     }
 }

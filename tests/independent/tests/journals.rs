@@ -1,5 +1,6 @@
 //! The journal's test (document 02, No. 6): 16 unless the applied moves give the record, its place
-//! among the other numbers, and journals of other sessions that give the same record.
+//! among the other numbers, and journals of other sessions that give the same record. `goto.rs` has
+//! moves that are kept beyond the applied ones.
 
 use independent::journal::JOURNAL;
 use independent::machine::{
@@ -64,8 +65,12 @@ fn tested(record: &Record, journal: &[u8]) -> u8 {
     assert_eq!(turn_number(record, journal, &EXITS, 0), absent);
     let class = script::class(record, &mut journal.to_vec(), &EXITS, &[], &mut [], &mut []);
     assert_eq!(class.number, number);
-    let back = session::undo(record, journal).number;
-    assert!(back == number || back == 9 && record.snapshot.applied == 0);
+    let applied = usize::from(record.snapshot.applied);
+    for step in [0, applied / 2, applied.saturating_sub(1), applied] {
+        assert_eq!(session::goto(record, journal, step).number, number);
+    }
+    let past = if number == 15 { 15 } else { 9 };
+    assert_eq!(session::goto(record, journal, applied + 1).number, past);
     number
 }
 
@@ -192,7 +197,7 @@ fn changed_records() {
                 changed[at] = other;
                 let (snapshot, named) = picture::raw_fields(&changed).expect("the sizes stay");
                 if named && snapshot != record.snapshot {
-                    let number = tested(&Record { snapshot, ..record }, &journal);
+                    let number = tested(&Record::new(snapshot, record.born), &journal);
                     assert!(number != 0 || [5, 7].contains(&at));
                     met[usize::from(number)] += 1;
                 }
@@ -208,7 +213,7 @@ fn changed_records() {
 }
 
 /// Two neighbouring moves exchanged: where the same state is reached, a call with that journal goes
-/// on from it, and a step back goes back in it.
+/// on from it, and a going back goes back in it.
 #[test]
 fn exchanged_neighbours() {
     let mut passed = 0;
@@ -220,8 +225,8 @@ fn exchanged_neighbours() {
             let journal = other.journal();
             if tested(&record, &journal) == 0 && other != worked {
                 passed += 1;
-                let back = session::undo(&record, &journal);
-                assert_eq!(back.value, other.front(other.moves.len() - 1).record());
+                let back = session::goto(&record, &journal, at);
+                assert_eq!(back.value, other.record_at(at));
             }
         }
     }
@@ -275,9 +280,9 @@ fn bytes_past_the_applied_moves() {
 #[test]
 fn one_move_less_or_more() {
     let said = |worked: &Worked, applied: usize| {
-        let mut record = worked.record();
-        record.snapshot.applied = applied as u16;
-        record
+        let mut snapshot = worked.snapshot();
+        snapshot.applied = applied as u16;
+        Record::new(snapshot, worked.config.born)
     };
     for worked in sessions() {
         let count = worked.moves.len();
@@ -306,8 +311,9 @@ fn nothing_applied() {
             assert_eq!(move_number(&begun.record(), &[byte; JOURNAL], [1, YIELD, 0]), 0);
             assert_eq!(turn_number(&begun.record(), &[byte; JOURNAL], &EXITS, 1), 0);
         }
-        let mut record = begun.call(1, EXIT, 0).record();
-        record.snapshot.applied = 0;
+        let mut snapshot = begun.call(1, EXIT, 0).snapshot();
+        snapshot.applied = 0;
+        let record = Record::new(snapshot, config.born);
         assert_eq!(move_number(&record, &[0; JOURNAL], [1, GO, 0]), 16);
         assert_eq!(turn_number(&record, &[0; JOURNAL], &EXITS, 1), 16);
     }
@@ -330,9 +336,9 @@ fn exits_by_owners() {
         assert_eq!(tested(&before.record(), &journal), 0);
         assert_eq!(tested(&before.record(), &before.journal()), 0);
         // With one move more the exit is among them, whatever record is lent.
-        let mut more = before.record();
-        more.snapshot.applied += 1;
-        assert_eq!(tested(&more, &journal), 16);
+        let mut more = before.snapshot();
+        more.applied += 1;
+        assert_eq!(tested(&Record::new(more, before.config.born), &journal), 16);
         // The front is had without a replay.
         assert_eq!(session::front(&record, &journal).value, old.session.moves.concat());
     }

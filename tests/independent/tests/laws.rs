@@ -1,18 +1,28 @@
-//! Laws, record calls against the plain session and picture round trips, over random sessions.
+//! Laws, record calls against the plain session and picture round trips, over random sessions of
+//! moves, turns and goings.
 
 use independent::journal::JOURNAL;
-use independent::machine::{Config, Position, State, Token};
+use independent::machine::{Config, Move, Position, State, Token};
 use independent::picture;
 use independent::plain::{check_laws, History, Plain};
 use independent::random::{Call, Driver, Generator, Rates};
 use independent::record::{Record, Snapshot};
-use independent::session::{self, Ahead};
+use independent::script;
+use independent::session::{self, Ahead, Step};
+use std::cmp::Ordering;
 use std::collections::{BTreeMap, BTreeSet};
 
 #[derive(Default)]
 struct Coverage {
     moves: usize,
-    undos: usize,
+    turns: usize,
+    /// Goings back, forward and to where the session stands.
+    back: usize,
+    forward: usize,
+    nowhere: usize,
+    /// Moves and turns that dropped kept ones, and refused ones that did not.
+    dropped: usize,
+    kept: usize,
     refused: BTreeMap<u8, usize>,
     branches: BTreeMap<(Position, Position), usize>,
     /// L8 or GT3 finding a later token of the processor it observed.
@@ -29,6 +39,7 @@ struct ComparedSession {
     history: History,
     record: Record,
     journal: Vec<u8>,
+    scripts: Vec<u8>,
 }
 
 impl ComparedSession {
@@ -42,25 +53,41 @@ impl ComparedSession {
             history: History::start(config),
             record: begun.value,
             journal: vec![filler; JOURNAL + generator.below(3)],
+            scripts: generator.scripts(config),
         }
     }
 
-    fn make_move(&mut self, made: [u8; 3], coverage: &mut Coverage) {
+    fn make_move(&mut self, made: Move, coverage: &mut Coverage) {
         let answer = session::make_move(&self.record, &mut self.journal, made);
+        self.taken(made, answer, coverage);
+    }
+
+    fn turn(&mut self, p: u8, coverage: &mut Coverage) {
+        let made = self.plain.turn(&self.state, &self.scripts, p);
+        let answer = script::turn(&self.record, &mut self.journal, &self.scripts, p);
+        coverage.turns += usize::from(answer.number == 0);
+        self.taken(made, answer, coverage);
+    }
+
+    /// Compares the answer of a move, or of the turn whose move it is.
+    fn taken(&mut self, made: Move, answer: Step, coverage: &mut Coverage) {
+        let beyond = usize::from(self.plain.kept.len() > self.plain.standing);
         if let Some(number) = self.state.cause(made) {
             assert_eq!(answer.number, number);
             assert_eq!(answer.value, self.record);
             assert_ne!(number, 15);
             *coverage.refused.entry(number).or_default() += 1;
+            coverage.kept += beyond;
             return;
         }
         assert_eq!(answer.number, 0);
+        coverage.dropped += beyond;
         let before = self.state.clone();
         let here = *before.processor(made[0]);
         self.state.try_move(made).unwrap();
         let after = *self.state.processor(made[0]);
         self.history.note(made, &here, &after);
-        self.plain.moves.push(made);
+        self.plain.join(made);
         self.record = answer.value;
         assert_eq!(self.record.snapshot, Snapshot::of(&self.state));
         coverage.moves += 1;
@@ -81,9 +108,10 @@ impl ComparedSession {
         }
     }
 
-    fn undo(&mut self, coverage: &mut Coverage) {
-        let answer = session::undo(&self.record, &self.journal);
-        assert_eq!(answer.number, self.plain.undo());
+    fn goto(&mut self, step: u16, coverage: &mut Coverage) {
+        let stood = self.plain.standing;
+        let answer = session::goto(&self.record, &self.journal, step.into());
+        assert_eq!(answer.number, self.plain.goto(step.into()));
         if answer.number == 9 {
             assert_eq!(answer.value, self.record);
             *coverage.refused.entry(9).or_default() += 1;
@@ -92,7 +120,11 @@ impl ComparedSession {
         (self.state, self.history) = self.plain.work_out();
         self.record = answer.value;
         assert_eq!(self.record.snapshot, Snapshot::of(&self.state));
-        coverage.undos += 1;
+        *match self.plain.standing.cmp(&stood) {
+            Ordering::Less => &mut coverage.back,
+            Ordering::Equal => &mut coverage.nowhere,
+            Ordering::Greater => &mut coverage.forward,
+        } += 1;
     }
 
     fn check(&self) {
@@ -100,13 +132,17 @@ impl ComparedSession {
         check_counts(&self.state);
         assert_eq!(self.record.snapshot.broken_rule(), None);
         assert_eq!(self.record.born, self.plain.config.born);
+        assert_eq!(usize::from(self.record.kept), self.plain.kept.len());
         assert_eq!(self.record.state().as_ref(), Some(&self.state));
     }
 
+    /// The journal begins with the kept moves, its front is those that stand.
     fn check_journal(&self) {
+        let kept = self.plain.kept.concat();
+        assert_eq!(self.journal[..kept.len()], kept);
         let front = session::front(&self.record, &self.journal);
         assert_eq!(front.number, 0);
-        assert_eq!(front.value, self.plain.moves.concat());
+        assert_eq!(front.value, self.plain.moves().concat());
         assert_eq!((self.state.clone(), self.history.clone()), self.plain.work_out());
     }
 }
@@ -179,20 +215,24 @@ fn check_ahead(state: &State, snapshot: &Snapshot) {
     }
 }
 
-/// A session of at most `calls` calls.
+/// A session of at most `calls` calls. Turns, which end in exits, are among them where goings are.
 fn sit(config: Config, seed: u64, calls: usize, rates: Rates, coverage: &mut Coverage) {
     let mut driver = Driver::new(seed, rates);
     let mut session = ComparedSession::new(config, &mut driver.generator);
     session.check();
     for call in 0..calls {
-        match driver.next_call(&session.state) {
+        match driver.next_call(&session.state, session.record.kept) {
+            Call::Move([p, ..]) if rates.goto != 0 && driver.generator.once_in(12) => {
+                session.turn(p, coverage)
+            }
             Call::Move(made) => session.make_move(made, coverage),
-            Call::Undo => session.undo(coverage),
+            Call::Goto(step) => session.goto(step, coverage),
         }
         session.check();
         if call % 16 == 0 {
             check_picture(&session.record.snapshot, &mut driver.generator);
             check_ahead(&session.state, &session.record.snapshot);
+            session.check_journal();
         }
     }
     session.check_journal();
@@ -247,15 +287,20 @@ fn laws(stealing: u8, least: usize) {
     let mut seed = 0;
     while coverage.moves < least {
         let config = generator.config().with_stealing(stealing);
-        // Some sessions reach the most moves.
+        // Some sessions reach the most moves, some go to and fro.
         let (calls, rates) = match generator.below(40) {
-            0 => (4_500, Rates { refused: 20, undo: 2_000, owner_exits: 100 }),
-            _ => (50 + generator.below(900), Rates::USUAL),
+            0 => (4_500, Rates { refused: 20, back: 2_000, goto: 0, owner_exits: 100 }),
+            1..=4 => (600, Rates { goto: 6, ..Rates::USUAL }),
+            _ => (50 + generator.below(900), Rates::GOINGS),
         };
         seed += 1;
         sit(config, seed, calls, rates, &mut coverage);
     }
-    println!("{} sessions, {} moves, {} undos", seed, coverage.moves, coverage.undos);
+    let Coverage { moves, turns, back, forward, nowhere, dropped, kept, .. } = coverage;
+    println!("{seed} sessions, {moves} moves, {turns} of them as turns");
+    println!("goings: {back} back, {forward} forward, {nowhere} nowhere");
+    println!("kept moves dropped {dropped} times, kept {kept} times");
+    assert!([turns, back, forward, nowhere, dropped, kept].iter().all(|&count| count > 100));
     println!("refused {:?}", coverage.refused);
     println!("branches {:?}", coverage.branches);
     println!("later tokens of one processor {}", coverage.same_processor);
@@ -328,8 +373,8 @@ fn all_sizes() {
                 let born = 1 + (p * 7 + t * 3 + m) % t;
                 let seed = u64::from(p) * 1_000_000 + u64::from(t) * 1_000 + u64::from(m);
                 let config = Config::new(p, t, m, born);
-                sit(config, seed, 24, Rates::USUAL, &mut coverage);
-                sit(config.with_stealing(1), seed, 24, Rates::USUAL, &mut coverage);
+                sit(config, seed, 24, Rates::GOINGS, &mut coverage);
+                sit(config.with_stealing(1), seed, 24, Rates::GOINGS, &mut coverage);
             }
         }
     }
@@ -339,25 +384,31 @@ fn all_sizes() {
 #[test]
 fn plain_session_answers_alike() {
     for seed in 0..40 {
-        let mut driver = Driver::new(seed, Rates { refused: 6, undo: 15, owner_exits: 20 });
+        let rates = Rates { refused: 6, back: 25, goto: 15, owner_exits: 20 };
+        let mut driver = Driver::new(seed, rates);
         let config = driver.generator.config().with_stealing((seed % 2) as u8);
         let mut plain = Plain::new(config);
         let mut record = session::start(config).value;
         let mut journal = vec![seed as u8; JOURNAL];
         for _ in 0..120 {
             let state = record.state().unwrap();
-            let (answer, number) = match driver.next_call(&state) {
+            let (answer, number) = match driver.next_call(&state, record.kept) {
                 Call::Move(made) => {
                     let step = session::make_move(&record, &mut journal, made);
                     (step.answer(), plain.make_move(made))
                 }
-                Call::Undo => (session::undo(&record, &journal), plain.undo()),
+                Call::Goto(step) => {
+                    let answer = session::goto(&record, &journal, step.into());
+                    (answer, plain.goto(step.into()))
+                }
             };
             assert_eq!(answer.number, number);
             record = answer.value;
             assert_eq!(record.snapshot, Snapshot::of(&plain.work_out().0));
+            assert_eq!(usize::from(record.kept), plain.kept.len());
             let front = session::front(&record, &journal);
-            assert_eq!(front.value, plain.moves.concat());
+            assert_eq!(front.value, plain.moves().concat());
+            assert_eq!(journal[..3 * plain.kept.len()], plain.kept.concat());
         }
     }
 }

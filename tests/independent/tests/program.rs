@@ -18,7 +18,7 @@ fn example() {
 
 #[test]
 fn other_lines() {
-    let lines: [&[u8]; 32] = [
+    let lines: [&[u8]; 43] = [
         b"",
         b" ",
         b"show ",
@@ -27,8 +27,19 @@ fn other_lines() {
         b"SHOW",
         b"sho",
         b"showx",
-        b"back 1",
-        b"back ",
+        b"back",
+        b"goto",
+        b"goto ",
+        b"goto 1 ",
+        b"goto  1",
+        b"goto 01",
+        b"goto 1 1",
+        b"goto -1",
+        b"goto 4001",
+        b"goto 04000",
+        b"goto 40000",
+        b"goto 65536",
+        b"GOTO 1",
         b"move",
         b"move 1 0",
         b"move 1 0 0 0",
@@ -73,14 +84,35 @@ fn fifth_number() {
 #[test]
 fn before_a_start() {
     let input =
-        b"show\nback\nmove 1 0 0\nstart 0 1 1 1\nshow\nstart 1 1 1 1\nstart 9 1 1 1\nshow\n";
+        b"show\ngoto 0\nmove 1 0 0\nstart 0 1 1 1\nshow\nstart 1 1 1 1\nstart 9 1 1 1\nshow\n";
     assert_eq!(run(input), format!("?\n?\n?\n1\n?\n0\n1\n{EXAMPLE}\n"));
+}
+
+/// Every step from 0 to 4,000 is a number of the line; those past the kept moves are refused by 9.
+#[test]
+fn steps() {
+    let mut reader = Reader::default();
+    assert_eq!(reader.feed(b"goto 0\nstart 1 1 1 1\nmove 1 4 0\nmove 1 0 0\n"), "?\n0\n0\n0\n");
+    for step in 0..5_000 {
+        let wanted = match step {
+            0..=2 => "0\n",
+            3..=4_000 => "9\n",
+            _ => "?\n",
+        };
+        assert_eq!(reader.feed(format!("goto {step}\n").as_bytes()), wanted, "{step}");
+    }
+    // The last going was to step 2; a refused move keeps what a taken one drops.
+    assert_eq!(reader.feed(b"goto 1\nmove 1 4 0\ngoto 2\ngoto 1\n"), "0\n4\n0\n0\n");
+    assert_eq!(reader.feed(b"move 1 0 0\ngoto 3\ngoto 2\ngoto 0\n"), "0\n9\n0\n0\n");
+    assert_eq!(reader.feed(b"show\nmove 1 1 1\ngoto 2\n"), format!("{EXAMPLE}\n0\n9\n"));
+    // A start keeps no move.
+    assert_eq!(reader.feed(b"start 9 1 1 1\ngoto 1\nstart 1 1 1 1\ngoto 1\n"), "1\n0\n0\n9\n");
 }
 
 #[test]
 fn long_lines() {
     for length in [64, 65, 66, 128, 130, 5_000] {
-        for tail in ["show", "back", "start 1 1 1 1"] {
+        for tail in ["show", "goto 0", "start 1 1 1 1"] {
             let mut input = b"start 1 1 1 1\n".to_vec();
             input.extend(vec![b'x'; length]);
             input.extend(tail.as_bytes());
@@ -95,7 +127,9 @@ fn long_lines() {
 #[test]
 fn cuts() {
     let mut input = Vec::new();
-    for line in ["start 2 3 1 2", "move 1 1 1", "show", "", "back", "move 1 6 3", "back", "back"] {
+    let lines =
+        ["start 2 3 1 2", "move 1 1 1", "show", "", "goto 0", "move 1 6 3", "goto 0", "goto 2"];
+    for line in lines {
         input.extend(line.as_bytes());
         input.push(b'\n');
     }
@@ -118,7 +152,9 @@ fn most_moves() {
         assert_eq!(reader.feed(b"move 2 0 0\n"), "0\n");
     }
     assert_eq!(reader.feed(b"move 2 0 0\nmove 3 0 0\nmove 2 0 1\nmove 2 1 1\n"), "8\n2\n3\n8\n");
-    assert_eq!(reader.feed(b"back\nmove 2 0 0\nmove 2 0 0\n"), "0\n0\n8\n");
+    assert_eq!(reader.feed(b"goto 3999\nmove 2 0 0\nmove 2 0 0\n"), "0\n0\n8\n");
+    assert_eq!(reader.feed(b"goto 0\ngoto 4001\ngoto 4000\nmove 2 0 0\n"), "0\n?\n0\n8\n");
+    assert_eq!(reader.feed(b"goto 2000\nmove 2 0 0\ngoto 2002\ngoto 4000\n"), "0\n0\n9\n9\n");
 }
 
 /// Answers come before the next read.
@@ -139,7 +175,7 @@ fn process_flushes() {
         assert_eq!(output, expected.as_bytes());
     };
     ask(b"start 1 1 1 1\n", "0\n");
-    ask(b"show\nback\nsh", &format!("{EXAMPLE}\n9\n"));
+    ask(b"show\ngoto 1\nsh", &format!("{EXAMPLE}\n9\n"));
     ask(b"ow\n", &format!("{EXAMPLE}\n"));
     stdin.write_all(b"move 9 0 0").unwrap();
     drop(stdin);

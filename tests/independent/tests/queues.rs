@@ -156,20 +156,22 @@ fn steps_back() {
         for left in (0..worked.moves.len()).rev() {
             let mut other = record;
             other.snapshot.stealing = 0;
-            assert!([15, 16].contains(&session::undo(&other, &journal).number));
-            let answer = session::undo(&record, &journal);
+            assert!([15, 16].contains(&session::goto(&other, &journal, left).number));
+            let answer = session::goto(&record, &journal, left);
             assert_eq!(answer.number, 0);
             record = answer.value;
-            assert_eq!(record.snapshot, worked.front(left).snapshot());
+            assert_eq!(record, worked.record_at(left));
         }
-        assert_eq!(session::undo(&record, &journal).number, 9);
+        let last = worked.moves.len();
+        assert_eq!(session::goto(&record, &journal, last + 1).number, 9);
+        assert_eq!(session::goto(&record, &journal, last).value, worked.record());
     }
     // A look number that the moves do not give.
     let idle = Worked::new(each(2, 2, 1, 1)).go(2, 3);
     let (mut record, journal) = (idle.record(), idle.journal());
     assert_eq!(record.snapshot.processor_rows[1].probe, 1);
     record.snapshot.processor_rows[1].probe = 0;
-    assert_eq!(session::undo(&record, &journal).number, 16);
+    assert_eq!(session::goto(&record, &journal, 2).number, 16);
 }
 
 /// A stolen thread goes on with its script.
@@ -226,9 +228,9 @@ fn records() {
         let mut shown = whole;
         edit(&mut shown);
         assert_eq!(shown.broken_rule(), Some(number), "{shown:?}");
-        let record = Record { snapshot: shown, born: 6 };
+        let record = Record::new(shown, 6);
         let mut journal = vec![0; JOURNAL];
         assert_eq!(session::make_move(&record, &mut journal, [1, GO, 0]).number, 15);
-        assert_eq!(session::undo(&record, &journal).number, 15);
+        assert_eq!(session::goto(&record, &journal, 0).number, 15);
     }
 }

@@ -49,8 +49,8 @@ impl ScriptedSession {
         self.record = answer.value;
     }
 
-    fn undo(&mut self) {
-        let answer = session::undo(&self.record, &self.journal);
+    fn goto(&mut self, step: usize) {
+        let answer = session::goto(&self.record, &self.journal, step);
         assert_eq!(answer.number, 0);
         self.record = answer.value;
     }
@@ -296,11 +296,12 @@ fn refused_call_is_tried_again() {
     session.turns(&[2, 3, 3]);
     assert_eq!(session.turn(1), 7);
     assert_eq!(session.progress(), [0, 1, 0]);
-    for _ in 0..3 {
-        session.undo();
+    // Forward again it is created again.
+    for step in [3, 2, 1, 3, 4, 1] {
+        session.goto(step);
         assert_eq!(session.turn(1), 7);
     }
-    session.undo();
+    session.goto(0);
     session.turns(&[1]);
     assert_eq!(session.last(), [1, CREATE, 3]);
     assert_eq!(session.turn(2), 7);
@@ -309,20 +310,27 @@ fn refused_call_is_tried_again() {
     assert_eq!(session.progress(), [2, 0, 0]);
 }
 
-/// Stepping back gives a call back to its thread's script.
+/// A going back gives calls back to their thread's script, one forward takes them again: those kept
+/// beyond the standing moves do not count.
 #[test]
-fn steps_back_return_calls() {
+fn goings_return_calls() {
     let scripts = [script(&[[YIELD, 0], [LOCK, 1]])];
     let mut session = ScriptedSession::new(Config::new(1, 1, 1, 1), &scripts);
     for _ in 0..3 {
         session.turns(&[1, 1, 1]);
         assert_eq!((session.last(), session.progress()), ([1, LOCK, 1], vec![2]));
-        session.undo();
-        assert_eq!(session.progress(), [1]);
-        session.undo();
-        session.undo();
-        assert_eq!(session.progress(), [0]);
+        for (step, calls) in [(2, 1), (1, 1), (0, 0), (3, 2), (1, 1), (2, 1), (0, 0)] {
+            session.goto(step);
+            assert_eq!(session.progress(), [calls]);
+        }
     }
+    session.goto(1);
+    session.turns(&[1, 1]);
+    assert_eq!((session.last(), session.record.kept), ([1, LOCK, 1], 3));
+    // From another place of the script the same turn is another call.
+    session.goto(0);
+    session.turns(&[1]);
+    assert_eq!((session.last(), session.record.kept), ([1, YIELD, 0], 1));
 }
 
 /// Two threads change processors by yields; each goes on where it was.
@@ -427,8 +435,8 @@ fn same_record_other_journals() {
     one.turns(&[1]);
     two.turns(&[1]);
     assert_eq!((one.last(), two.last()), ([1, LOCK, 1], [1, YIELD, 0]));
-    one.undo();
-    two.undo();
+    one.goto(2);
+    two.goto(2);
     one.turns(&[2]);
     two.turns(&[2]);
     assert_eq!((one.last(), two.last()), ([2, YIELD, 0], [2, TRYLOCK, 1]));

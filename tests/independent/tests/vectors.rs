@@ -37,7 +37,7 @@ fn stored_vectors_are_current() {
     for (name, content) in &new {
         assert!(old[name] == *content, "{name} differs");
     }
-    assert!(old.values().map(Vec::len).sum::<usize>() < 5_800_000);
+    assert!(old.values().map(Vec::len).sum::<usize>() < 6_100_000);
 }
 
 /// Runs a program on the stored sessions of a folder; its outputs are compared as `read` gives them.

@@ -7,7 +7,7 @@ use independent::machine::Position::{self, *};
 use independent::machine::{
     Config, Life, Move, State, Token, CREATE, EXIT, GO, LOCK, TRYLOCK, UNLOCK, YIELD,
 };
-use independent::random::{Call, Driver, Generator, Rates};
+use independent::random::{Call, Driver, Generator, Rates, Trail};
 use independent::record::Record;
 use independent::script::{self, script, SCRIPT};
 use independent::session;
@@ -374,11 +374,10 @@ fn check_laws(before: &State, made: Move, touch: Touch, after: &State) {
     assert_eq!(owners(&other), owners(after));
 }
 
-/// A random session of calls on a record and its journal, its words all along.
+/// A random session of calls on a record and its journal, with the words of its kept moves.
 struct Driven {
-    states: Vec<State>,
+    trail: Trail,
     touches: Vec<Touch>,
-    moves: Vec<u8>,
     record: Record,
     journal: Vec<u8>,
 }
@@ -386,21 +385,26 @@ struct Driven {
 impl Driven {
     fn new(config: Config) -> Driven {
         Driven {
-            states: vec![State::start(config)],
+            trail: Trail::new(config),
             touches: vec![],
-            moves: vec![],
             record: session::start(config).value,
             journal: vec![FILLER; JOURNAL],
         }
     }
 
-    fn state(&self) -> &State {
-        self.states.last().unwrap()
+    /// The words of the moves that stand.
+    fn standing(&self) -> &[Touch] {
+        &self.touches[..usize::from(self.trail.state().applied)]
+    }
+
+    /// The moves that stand.
+    fn moves(&self) -> Vec<u8> {
+        self.trail.moves[..self.standing().len()].concat()
     }
 
     /// The number of a move or, where it is a go, of a turn.
     fn make(&mut self, made: Move, by_turn: bool, met: &mut Met) -> u8 {
-        let before = self.state().clone();
+        let before = self.trail.state().clone();
         let scripts = [0; 32 * SCRIPT];
         let step = if by_turn && made[1] == GO && before.cause(made).is_none() {
             script::turn(&self.record, &mut self.journal, &scripts, made[0])
@@ -410,8 +414,8 @@ impl Driven {
         assert_eq!(step.touch, Touch::of(&before, made));
         if step.number != 0 {
             assert_eq!(step.touch, Touch::NONE);
-            let refused = [&self.moves[..], &made].concat();
-            let place = self.touches.len() as u32 + 1;
+            let refused = [&self.moves()[..], &made].concat();
+            let place = self.standing().len() as u32 + 1;
             let list = touch::of_list(self.record.config(), &refused);
             assert_eq!(list, Err((step.number, place)));
             return step.number;
@@ -420,23 +424,21 @@ impl Driven {
         assert_eq!(checked(&mut after, made, met), step.touch);
         check_laws(&before, made, step.touch, &after);
         self.record = step.value;
-        self.states.push(after);
+        self.touches.truncate(self.standing().len());
         self.touches.push(step.touch);
-        self.moves.extend(made);
-        0
+        self.trail.call(Call::Move(made))
     }
 
-    fn undo(&mut self) {
-        self.record = session::undo(&self.record, &self.journal).value;
-        if self.touches.pop().is_some() {
-            self.states.pop();
-            self.moves.truncate(3 * self.touches.len());
-        }
+    /// The words that are kept are those of a going forward too.
+    fn goto(&mut self, step: u16) {
+        let answer = session::goto(&self.record, &self.journal, step.into());
+        assert_eq!(answer.number, self.trail.call(Call::Goto(step)));
+        self.record = answer.value;
     }
 
     /// What the last move touched is known from the journal.
     fn check_last(&self) {
-        let last = self.touches.last().copied().unwrap_or(Touch::NONE);
+        let last = self.standing().last().copied().unwrap_or(Touch::NONE);
         assert_eq!(session::last_touch(&self.record, &self.journal), last);
     }
 }
@@ -448,14 +450,15 @@ fn random_sessions() {
     let (mut met, mut numbers) = (Met::new(), BTreeSet::new());
     let few = [(3, 3, 1), (4, 4, 1), (4, 4, 2), (5, 6, 1)];
     for seed in 0..64 {
-        let mut driver = Driver::new(seed, Rates { refused: 12, undo: 60, owner_exits: 30 });
+        let rates = Rates { refused: 12, back: 90, goto: 60, owner_exits: 30 };
+        let mut driver = Driver::new(seed, rates);
         let (p, t, m) = few[seed as usize / 2 % 4];
         let any = driver.generator.config();
         let config = if seed < 32 { Config::new(p, t, m, t) } else { any };
         let mut session = Driven::new(config.with_stealing((seed % 2) as u8));
         for _ in 0..500 {
-            match driver.next_call(session.state()) {
-                Call::Undo => session.undo(),
+            match driver.next_call(session.trail.state(), session.trail.kept()) {
+                Call::Goto(step) => session.goto(step),
                 Call::Move(made) => {
                     let by_turn = driver.generator.once_in(3);
                     numbers.insert(session.make(made, by_turn, &mut met));
@@ -465,8 +468,8 @@ fn random_sessions() {
                 session.check_last();
             }
         }
-        let list = touch::of_list(session.record.config(), &session.moves);
-        assert_eq!(list, Ok(session.touches));
+        let list = touch::of_list(session.record.config(), &session.moves());
+        assert_eq!(list, Ok(session.standing().to_vec()));
     }
     for (line, next, _) in ROWS {
         assert!(met.contains_key(&(line, next)), "{line:?} to {next:?}");

@@ -205,15 +205,15 @@ fn steps_out_of_rules() {
     assert_eq!(at_h5.mutex(1).token, token(1, 4_000));
 }
 
+/// A step back; `tests/goto.rs` has goings to all steps.
 #[test]
-fn undo_refusals() {
+fn goto_refusals() {
     let (record, journal) = made(&worked::k7());
-    let answer = session::undo(&record, &journal);
-    assert_eq!(answer.number, 0);
-    let shorter = worked::k7().front(worked::k7().moves.len() - 1);
-    assert_eq!(answer.value.snapshot, shorter.snapshot());
+    let last = worked::k7().moves.len() - 1;
+    let answer = session::goto(&record, &journal, last);
+    assert_eq!((answer.number, answer.value), (0, worked::k7().record_at(last)));
     let refused = |record: &Record, journal: &[u8], number: u8| {
-        let answer = session::undo(record, journal);
+        let answer = session::goto(record, journal, last);
         assert_eq!((answer.number, answer.value), (number, *record));
     };
     refused(&record, &journal[..JOURNAL - 1], 10);
@@ -272,5 +272,5 @@ fn owner_exits() {
         plain::check_laws(&state, &history, config).unwrap();
         assert_eq!(record.snapshot, Snapshot::of(&state));
     }
-    assert_eq!(session.moves, [[1, LOCK, 1], [1, GO, 0], [1, UNLOCK, 1]]);
+    assert_eq!(session.moves(), [[1, LOCK, 1], [1, GO, 0], [1, UNLOCK, 1]]);
 }

@@ -1,32 +1,26 @@
 //! The static library and the independent implementation on the same input in one run: what each
-//! takes, and the ratio. Times are medians over rounds in which the two take turns. The calls on a
-//! session are not in the library: the proved side of those lines is the program `measure`, whose
-//! path is in HUMDAYEG_MEASURE.
+//! takes, and the ratio. Times are medians over rounds in which the two take turns. Sessions are kept
+//! as bytes on both sides.
 
 use differential::classes::Class;
 use differential::sessions::{drive_with, Session};
-use differential::{class, expected, read, replay, replay_with, MOST_PICTURE};
+use differential::{class, expected, read, replay, replay_with, sitting, MOST_PICTURE};
 use independent::journal::JOURNAL;
 use independent::machine::{Move, State, MOST_MOVES};
 use independent::picture;
 use independent::random::{Generator, Rates};
 use independent::record::{Record, Snapshot};
-use independent::script;
-use independent::session::{make_move, start, undo};
-use independent::Answer;
-use std::env;
+use independent::{script, session_bytes};
 use std::hint::black_box;
-use std::io::Write;
-use std::process::{Command, Stdio};
 use std::time::Instant;
 
 const ROUNDS: usize = 31;
 
-/// Rounds where the proved side is a program, run twice for each session.
-const PROGRAM_ROUNDS: usize = 11;
+/// Rounds of whole sessions.
+const LONG_ROUNDS: usize = 11;
 
-/// How often one run makes the last move of a session, or steps back from it.
-const CALL_ROUNDS: u8 = 100;
+/// How often a round makes the last move of a session, or goes to a step from its end.
+const CALLS: usize = 20;
 
 /// How many sessions are made move by move, where each move replays all before it.
 const WHOLE_SESSIONS: usize = 3;
@@ -44,22 +38,22 @@ fn median(mut times: Vec<f64>) -> f64 {
 }
 
 /// Measures both in turns and prints a line: each's time for one of `count` units, and the ratio.
-fn compare(what: &str, count: usize, mut proved: impl FnMut(), mut rust: impl FnMut()) {
-    compare_times(what, ROUNDS, count, || time(&mut proved), || time(&mut rust));
+fn compare(what: &str, count: usize, proved: impl FnMut(), rust: impl FnMut()) {
+    compare_rounds(what, ROUNDS, count, proved, rust);
 }
 
-/// The same of two that give their own times.
-fn compare_times(
+/// The same with a number of rounds.
+fn compare_rounds(
     what: &str,
     rounds: usize,
     count: usize,
-    mut proved: impl FnMut() -> f64,
-    mut rust: impl FnMut() -> f64,
+    mut proved: impl FnMut(),
+    mut rust: impl FnMut(),
 ) {
     let (mut ours, mut theirs) = (Vec::new(), Vec::new());
     for _ in 0..rounds {
-        ours.push(proved() / count as f64);
-        theirs.push(rust() / count as f64);
+        ours.push(time(&mut proved) / count as f64);
+        theirs.push(time(&mut rust) / count as f64);
     }
     let (ours, theirs) = (median(ours), median(theirs));
     let a_second = |nanoseconds: f64| 1e9 / nanoseconds;
@@ -140,115 +134,92 @@ fn compare_classes() {
     );
 }
 
-/// What the program `measure` is to do in each round.
-#[derive(Clone, Copy)]
-enum Job {
-    Moves = 0,
-    StepBack = 1,
-    LastMove = 2,
+/// A session as bytes after so many moves, and the journal of all.
+#[derive(Clone)]
+struct Lent {
+    session: Vec<u8>,
+    journal: Vec<u8>,
 }
 
-/// Nanoseconds of one run of the program, which must count so many accepted answers.
-fn run_program(job: Job, rounds: u8, session: &Session, accepted: usize) -> f64 {
-    let path = env::var_os("HUMDAYEG_MEASURE").expect("HUMDAYEG_MEASURE is not set");
-    let input = [&[job as u8, rounds], &session.table[..], &session.moves].concat();
-    let mut output = Vec::new();
-    let took = time(&mut || {
-        let mut command = Command::new(&path);
-        let mut child = command.stdin(Stdio::piped()).stdout(Stdio::piped()).spawn().unwrap();
-        child.stdin.take().unwrap().write_all(&input).unwrap();
-        output = child.wait_with_output().unwrap().stdout;
-    });
-    assert_eq!(output, format!("{accepted}\n").into_bytes());
-    took
+impl Lent {
+    fn after(moves: usize, session: &Session) -> Lent {
+        let record = Record::of(&session.states[moves], session.table[3]);
+        Lent { session: session_bytes::encode(&record), journal: session.moves.clone() }
+    }
+
+    /// The number of the journal's last move.
+    fn make_last(&mut self, make: Make) -> u8 {
+        let last = [0, 1, 2].map(|i| self.journal[JOURNAL - 3 + i]);
+        make(&mut self.session, &mut self.journal, last)
+    }
 }
 
-/// Nanoseconds that the program spends on the rounds of each session: what it takes beyond a run
-/// of no rounds.
-fn in_program(job: Job, rounds: u8, sessions: &[Session], accepted: usize) -> f64 {
-    let spent = |session| {
-        run_program(job, rounds, session, usize::from(rounds) * accepted)
-            - run_program(job, 0, session, 0)
-    };
-    sessions.iter().map(spent).sum()
+/// A call on a session as bytes, and a move on its parts.
+type Call = fn(&mut Lent) -> u8;
+type Make = fn(&mut [u8], &mut [u8], Move) -> u8;
+
+/// Makes a call many times over, each time from the same bytes. What a move writes into the journal is
+/// there already.
+fn repeat(all: &mut [Lent], call: Call) {
+    for lent in all {
+        let session = lent.session.clone();
+        for _ in 0..CALLS {
+            assert_eq!(call(black_box(lent)), 0);
+            lent.session.copy_from_slice(&session);
+        }
+    }
+}
+
+/// A line on a call at each session's end, which is handed the session after so many moves.
+fn compare_last(what: &str, sessions: &[Session], moves: usize, proved: Call, rust: Call) {
+    let mut ours: Vec<Lent> = sessions.iter().map(|session| Lent::after(moves, session)).collect();
+    let mut theirs = ours.clone();
+    let count = CALLS * sessions.len();
+    compare(what, count, || repeat(&mut ours, proved), || repeat(&mut theirs, rust));
 }
 
 /// Makes a session's moves one by one.
-fn make_in_rust(session: &Session, journal: &mut [u8]) -> Record {
-    let mut record = start(expected::config(session.table)).value;
+fn make_all(lent: &mut Lent, session: &Session, make: Make) {
+    *lent = Lent::after(0, session);
     for made in session.moves.chunks_exact(3) {
-        let answer = make_move(black_box(&record), journal, [made[0], made[1], made[2]]);
-        assert_eq!(answer.number, 0);
-        record = answer.value;
+        let made = [made[0], made[1], made[2]];
+        assert_eq!(make(black_box(&mut lent.session), &mut lent.journal, made), 0);
     }
-    record
 }
 
-/// A line on a call at each session's end, which is handed the record after so many moves, the
-/// journal of all and the last of them.
-fn compare_last(
-    what: &str,
-    job: Job,
-    sessions: &[Session],
-    moves: usize,
-    call: impl Fn(&Record, &mut [u8], Move) -> Answer<Record>,
-) {
-    let lent = |Session { states, table, moves: journal, .. }: &Session| {
-        (Record::of(&states[moves], table[3]), journal.clone())
-    };
-    let mut lent: Vec<(Record, Vec<u8>)> = sessions.iter().map(lent).collect();
-    compare_times(
-        what,
-        PROGRAM_ROUNDS,
-        usize::from(CALL_ROUNDS) * sessions.len(),
-        || in_program(job, CALL_ROUNDS, sessions, 1),
-        || {
-            time(&mut || {
-                for (record, journal) in &mut lent {
-                    let last = [0, 1, 2].map(|i| journal[JOURNAL - 3 + i]);
-                    for _ in 0..CALL_ROUNDS {
-                        let answer = call(black_box(record), journal, last);
-                        assert_eq!(black_box(answer).number, 0);
-                    }
-                }
-            })
-        },
-    );
-}
-
-/// The lines on a session's calls, over sessions of 4,000 moves. Both sides go through all rounds
-/// of a session before the next.
+/// The lines on a session's calls, over sessions of 4,000 moves that are kept as bytes.
 fn compare_sessions(sessions: &[Session]) {
     let most = usize::from(MOST_MOVES);
     assert!(sessions.iter().all(|session| session.moves.len() == JOURNAL));
     compare_last(
         "the 4,000th move, its journal tested",
-        Job::LastMove,
         sessions,
         most - 1,
-        |record, journal, made| make_move(record, journal, made).answer(),
+        |lent| lent.make_last(sitting::make_move),
+        |lent| lent.make_last(session_bytes::make_move),
     );
     compare_last(
-        "a step back from 4,000 moves",
-        Job::StepBack,
+        "from 4,000 moves to step 0",
         sessions,
         most,
-        |record, journal, _| undo(record, journal),
+        |lent| sitting::goto(&mut lent.session, &lent.journal, 0),
+        |lent| session_bytes::goto(&mut lent.session, &lent.journal, 0),
+    );
+    compare_last(
+        "from 4,000 moves to step 3,999",
+        sessions,
+        most,
+        |lent| sitting::goto(&mut lent.session, &lent.journal, 3_999),
+        |lent| session_bytes::goto(&mut lent.session, &lent.journal, 3_999),
     );
     let few = &sessions[..WHOLE_SESSIONS];
-    let mut journal = [0; JOURNAL];
-    compare_times(
+    let (mut ours, mut theirs) = (Lent::after(0, &few[0]), Lent::after(0, &few[0]));
+    compare_rounds(
         "a session of 4,000 moves",
-        PROGRAM_ROUNDS,
+        LONG_ROUNDS,
         few.len(),
-        || in_program(Job::Moves, 1, few, most),
-        || {
-            time(&mut || {
-                for session in few {
-                    black_box(make_in_rust(session, &mut journal));
-                }
-            })
-        },
+        || few.iter().for_each(|session| make_all(&mut ours, session, sitting::make_move)),
+        || few.iter().for_each(|session| make_all(&mut theirs, session, session_bytes::make_move)),
     );
 }
 

@@ -49,7 +49,7 @@ fn main() -> io::Result<ExitCode> {
     let [count, lines] = [count, lines].map(|word| word.parse::<u64>().expect("a number"));
     let mut failed = 0;
     for seed in 0..count {
-        let input = random_course::viewed(seed, lines as usize);
+        let input = random_course::viewed(seed, lines as usize, random_course::ANY_STEP);
         let wanted = course::run(&input).into_bytes();
         if let Some(wrong) = compare(program, &input, &wanted)? {
             let kept = Path::new(folder).join(format!("course-{seed}"));

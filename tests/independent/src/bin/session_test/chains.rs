@@ -10,7 +10,7 @@ use independent::session;
 use independent::worked::Worked;
 
 fn fields(shown: Snapshot, born: u8) -> Fields {
-    Fields::of(&Record { snapshot: shown, born })
+    Fields::of(&Record::new(shown, born))
 }
 
 /// Changes what differs between two records.
@@ -20,10 +20,10 @@ fn changes(s: &mut Script, from: &Fields, to: &Fields) {
     }
 }
 
-/// A step back, the last thread's turns ahead, a move, the picture and a last call after it; then
-/// record and journal are brought back.
+/// A going, the last thread's turns ahead, a move, the picture and a last call after it; then record
+/// and journal are brought back.
 fn calls(s: &mut Script, threads: u8, last: &str) {
-    s.all(&["b", &format!("q {threads}"), "m 1 0 0", "p", last, "a"]);
+    s.all(&["g 0", &format!("q {threads}"), "m 1 0 0", "p", last, "a"]);
 }
 
 /// From a start, the record of the first case; then from it that of each case in turn. With chains
@@ -72,7 +72,7 @@ fn reached(s: &mut Script, worked: &Worked) {
     s.start(worked.config);
     worked.moves.iter().for_each(|&made| s.make(made));
     s.all(&["keep", "picture"]);
-    calls(s, worked.config.threads, "b");
+    calls(s, worked.config.threads, &format!("g {}", worked.moves.len()));
     s.say("hash");
 }
 

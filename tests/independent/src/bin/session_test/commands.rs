@@ -2,17 +2,17 @@
 //!
 //! A command is known by its word's first letter. Each of the first group prints a line.
 //!
-//! - `start P T M B`, with a fifth number or without, `move p a o`, `back`: the refusal, whether a
+//! - `start P T M B`, with a fifth number or without, `move p a o`, `goto k`: the refusal, whether a
 //!   field of the record changed and whether a byte of the journal did; a move then the word that it
 //!   read and the one that it wrote, kind and number each. A start's record is taken, refused or not.
 //! - `xtouch`: the words of the last standing move, in the same way.
 //! - `front`: the refusal, the front's length and its bytes.
-//! - `picture`, or `picture n` for a buffer of n bytes: the picture or its refusal, and B.
+//! - `picture`, or `picture n` for a buffer of n bytes: the picture or its refusal, B and the number of
+//!   moves kept.
 //! - `queue t`: the turns ahead of thread t, `-` where it does not wait, `r` before a refusal.
 //! - `hash`: a number that stands for the journal's 12,001 bytes.
-//! - `journal v p a o`: a number that stands for the refusals of a move where each byte of the
-//!   standing moves is raised by v in turn, round from 255 to 0. An accepted one is left behind
-//!   them.
+//! - `journal v p a o`: a number that stands for the refusals of a move where each byte of the kept
+//!   moves is raised by v in turn, round from 255 to 0. An accepted one is left in the journal.
 //! - `lend n`: so many of the journal's bytes are lent from now on.
 //! - `keep`: the record and the journal are stored; `again`: both are brought back;
 //!   `recall`: the record alone is.
@@ -28,8 +28,8 @@
 //! - `edit i a b c`: bytes i to i + 2 of the scripts become a, b, c. `order i a b c`: those of the
 //!   list do.
 //! - `use n`: so many of the scripts' bytes are lent from now on.
-//! - `generate seed q`: the list is filled with numbers from 0 to q. `vary seed`: the answers and
-//!   the pictures are filled, as `noise` fills a journal.
+//! - `build seed q`: the list is filled with numbers from 0 to q. `vary seed`: the answers and the
+//!   pictures are filled, as `noise` fills a journal.
 
 use independent::journal::JOURNAL;
 use independent::machine::{Config, Token};
@@ -45,7 +45,8 @@ use std::fmt::Write;
 pub const APPLIED: usize = 3;
 pub const BORN: usize = 4;
 pub const STEALING: usize = 221;
-pub const FIELDS: usize = 239;
+pub const KEPT: usize = 239;
+pub const FIELDS: usize = 240;
 
 /// Lengths of the buffers of scripts, turns, answers and pictures.
 pub const SCRIPTS: usize = 420;
@@ -92,6 +93,7 @@ impl Fields {
         fields.0[BORN] = u16::from(record.born);
         fields.0[first(0)] = u16::from(shown.ready_first);
         fields.0[STEALING] = u16::from(shown.stealing);
+        fields.0[KEPT] = record.kept;
         for (p, row) in (1..).zip(&shown.processor_rows) {
             let bytes = [row.position, row.current, row.transit, row.mutex, row.observed.processor];
             fields.0[processor(p, 0)..][..5].copy_from_slice(&bytes.map(u16::from));
@@ -172,12 +174,13 @@ impl Fields {
                 next: self.byte(thread(k, 2)),
             };
         }
-        Some(Record { snapshot: shown, born: self.byte(BORN) })
+        Some(Record { snapshot: shown, born: self.byte(BORN), kept: self.0[KEPT] })
     }
 
-    /// Whether field i has two bytes: moves applied, sequences.
+    /// Whether field i has two bytes: moves applied and kept, sequences.
     fn is_wide(i: usize) -> bool {
         i == APPLIED
+            || i == KEPT
             || (processor(0, 0)..mutex(0, 0)).contains(&i) && matches!((i - 14) % 8, 5 | 6)
             || (mutex(0, 0)..thread(0, 0)).contains(&i) && (i - 86) % 4 == 3
     }
@@ -233,7 +236,7 @@ impl Scripted {
         }
     }
 
-    fn generate(&mut self, seed: u16, most: u8) {
+    fn build(&mut self, seed: u16, most: u8) {
         noise(seed, &mut self.turns);
         for turn in &mut self.turns {
             *turn = (u16::from(*turn) % (u16::from(most) + 1)) as u8;
@@ -249,7 +252,7 @@ impl Scripted {
 struct Runner {
     fields: Fields,
     journal: Vec<u8>,
-    kept: (Fields, Vec<u8>),
+    stored: (Fields, Vec<u8>),
     lent: usize,
     scripted: Scripted,
     out: String,
@@ -259,9 +262,9 @@ impl Runner {
     fn new() -> Runner {
         let fields = Fields([0; FIELDS]);
         let journal = vec![0; JOURNAL + 1];
-        let kept = (fields.clone(), journal.clone());
+        let stored = (fields.clone(), journal.clone());
         let scripted = Scripted::new();
-        Runner { fields, journal, kept, lent: JOURNAL + 1, scripted, out: String::new() }
+        Runner { fields, journal, stored, lent: JOURNAL + 1, scripted, out: String::new() }
     }
 
     fn line(&mut self, line: std::fmt::Arguments) {
@@ -359,7 +362,7 @@ impl Runner {
     fn sweep(&mut self, raise: u8, made: [u8; 3]) {
         let record = self.fields.record();
         let mut refusals = Vec::new();
-        for i in 0..3 * usize::from(self.fields.at(APPLIED)) {
+        for i in 0..3 * usize::from(self.fields.at(KEPT)) {
             let byte = self.journal[i];
             self.journal[i] = byte.wrapping_add(raise);
             let lent = &mut self.journal[..self.lent];
@@ -371,10 +374,11 @@ impl Runner {
         self.line(format_args!("{hash}"));
     }
 
-    fn undo(&mut self) {
+    fn goto(&mut self, step: u16) {
         let before = self.journal.clone();
         let lent = &self.journal[..self.lent];
-        let answer = self.fields.record().map(|record| session::undo(&record, lent));
+        let record = self.fields.record();
+        let answer = record.map(|record| session::goto(&record, lent, step.into()));
         self.report(answer, &before);
     }
 
@@ -396,13 +400,13 @@ impl Runner {
         let record = self.fields.record();
         let lent = &mut bytes[..room];
         let number = record.map_or(15, |record| picture::write(&record.snapshot, lent));
-        let born = self.fields.at(BORN);
+        let [born, kept] = [BORN, KEPT].map(|i| self.fields.at(i));
         if number != 0 {
-            return self.line(format_args!("{number} {born}"));
+            return self.line(format_args!("{number} {born} {kept}"));
         }
         let [p, t, m] = [0, 1, 2].map(|i| self.fields.byte(i));
         let shown = picture::hex(&bytes[..picture::length(p, t, m)]);
-        self.line(format_args!("{shown} {born}"));
+        self.line(format_args!("{shown} {born} {kept}"));
     }
 
     fn hash(&mut self) {
@@ -432,7 +436,7 @@ impl Runner {
         match line.as_bytes()[0] {
             b's' => self.start(config()),
             b'm' => self.make_move([byte(0), byte(1), byte(2)]),
-            b'b' => self.undo(),
+            b'g' => self.goto(number(0)),
             b'x' => self.last_touch(),
             b'f' => self.front(),
             b'p' => self.picture(numbers.first().map_or(296, |&n| usize::from(n))),
@@ -440,9 +444,9 @@ impl Runner {
             b'h' => self.hash(),
             b'j' => self.sweep(byte(0), [byte(1), byte(2), byte(3)]),
             b'l' => self.lent = usize::from(number(0)),
-            b'k' => self.kept = (self.fields.clone(), self.journal.clone()),
-            b'a' => (self.fields, self.journal) = self.kept.clone(),
-            b'r' => self.fields = self.kept.0.clone(),
+            b'k' => self.stored = (self.fields.clone(), self.journal.clone()),
+            b'a' => (self.fields, self.journal) = self.stored.clone(),
+            b'r' => self.fields = self.stored.0.clone(),
             b'c' => self.fields.change(usize::from(number(0)), number(1)),
             b'w' => self.journal[usize::from(number(0))] = byte(1),
             b'n' => noise(number(0), &mut self.journal),
@@ -452,7 +456,7 @@ impl Runner {
             b'e' => edit(&mut self.scripted.scripts, number(0), [byte(1), byte(2), byte(3)]),
             b'o' => edit(&mut self.scripted.turns, number(0), [byte(1), byte(2), byte(3)]),
             b'u' => self.scripted.used = usize::from(number(0)),
-            b'g' => self.scripted.generate(number(0), byte(1)),
+            b'b' => self.scripted.build(number(0), byte(1)),
             b'v' => self.scripted.vary(number(0)),
             b'#' => {}
             _ => panic!("no such command: {line}"),

@@ -2,7 +2,7 @@
 //! other sessions, 16 among the other numbers, and the end of 4,000 moves, each at moves and turns.
 
 use crate::commands::{own_first, probe, thread, APPLIED, BORN, STEALING};
-use crate::script::{calls_at_most, LENGTHS, MOST};
+use crate::script::{calls_at_most, said, LENGTHS, MOST};
 use crate::writer::Writer;
 use independent::journal::JOURNAL;
 use independent::machine::{Config, Move, CREATE, GO, LOCK, TRYLOCK, UNLOCK, YIELD};
@@ -54,34 +54,38 @@ fn counts(w: &mut Writer) {
         w.say("noise 8");
         w.s.played(&worked);
         w.say("keep");
+        let (less, more) = (said(count as u16 - 1), said(count as u16 + 1));
         w.s.tried(&format!("c {APPLIED} {}\n", count - 1), made);
-        w.s.tried(&format!("c {APPLIED} {}\n", count + 1), made);
+        w.s.tried(&less, made);
+        w.s.tried(&more, made);
         let next: String = (3 * count..).zip(made).map(|(i, b)| format!("w {i} {b}\n")).collect();
         w.s.tried(&next, made);
-        w.s.tried(&format!("{next}c {APPLIED} {}\n", count + 1), made);
+        w.s.tried(&format!("{next}{more}"), made);
         w.all(&["# its last move is missing", "noise 9"]);
         w.s.played(&worked.front(count - 1));
-        w.all(&["recall", "x", "b", "hash"]);
+        w.all(&["recall", "x", "g 0", "hash"]);
         let [p, a, o] = made;
         w.all(&[&format!("m {p} {a} {o}"), &format!("t {p}"), "hash"]);
     }
 }
 
-/// A session's record with another one's journal, from there on moves, a turn and steps back.
+/// A session's record with another one's journal, from there on moves, a turn and goings.
 fn lent_another(w: &mut Writer, one: &Worked, other: &Worked, [p, a, o]: Move) {
+    let count = one.moves.len();
     w.s.played(one);
     w.say("keep");
     w.s.played(other);
-    w.all(&["recall", "x", "front", "b", "x", "p", "recall", "hash"]);
-    w.all(&[&format!("t {p}"), "p", "front", "b", &format!("m {p} {a} {o}"), "p", "front"]);
-    w.all(&["t 1", "x", "b", "x", "b", "x", "b", "p", "hash"]);
+    let [less, same, more] = [count - 1, count, count + 1].map(|step| format!("g {step}"));
+    w.all(&["recall", "x", "front", &less, "x", "p", "recall", "hash"]);
+    w.all(&[&format!("t {p}"), "p", "front", &same, &format!("m {p} {a} {o}"), "p", "front"]);
+    w.all(&["t 1", "x", &more, "x", &same, "x", &less, "p", &more, "hash"]);
 }
 
 /// Journals of other sessions, first those that give another record.
 fn other_sessions(w: &mut Writer) {
     w.say("# 16: the journal of another session");
     lent_another(w, &worked::k5(), &worked::k6(), [2, YIELD, 0]);
-    w.all(&["again", "b", "hash"]);
+    w.all(&["again", "g 0", "hash"]);
     w.say("# the journal of another session that gives the same record");
     let exchanged = |worked: &Worked, at: usize| {
         let mut other = worked.clone();
@@ -177,7 +181,7 @@ fn k10(w: &mut Writer) {
     for length in LENGTHS {
         w.s.lend(length);
         for call in ["m 1 0 0", "t 1"] {
-            w.all(&["x", call, "x", "p", "hash", call, "hash", "b", "p", "a"]);
+            w.all(&["x", call, "x", "p", "hash", call, "hash", "g 3999", "p", "a"]);
         }
     }
     w.say("# what stands past them, a move edited, a move less and more");
@@ -186,8 +190,9 @@ fn k10(w: &mut Writer) {
     }
     for applied in [MOST - 2, MOST, MOST + 1] {
         w.s.tried(&format!("c {APPLIED} {applied}\n"), [1, GO, 0]);
+        w.s.tried(&said(applied), [1, GO, 0]);
     }
-    let another = format!("w 11997 1\nw 11998 0\nw 11999 0\nc {APPLIED} {MOST}\n");
+    let another = format!("w 11997 1\nw 11998 0\nw 11999 0\n{}", said(MOST));
     w.s.tried(&another, [1, GO, 0]);
 }
 

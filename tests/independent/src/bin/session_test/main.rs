@@ -3,6 +3,7 @@
 
 mod chains;
 mod commands;
+mod goings;
 mod journals;
 mod owner_exits;
 mod script;

@@ -1,8 +1,8 @@
 //! The script's part on exits by owners: 21 at moves, turns and classes, its place among the other
 //! numbers, until when it is there; 16 for records and journals from before it.
 
-use crate::commands::{APPLIED, BORN};
-use crate::script::{Script, LENGTHS, MOST};
+use crate::commands::BORN;
+use crate::script::{said, Script, LENGTHS, MOST};
 use crate::writer::Writer;
 use independent::machine::{Config, Move, EXIT, GO, LOCK, TRYLOCK, UNLOCK, YIELD};
 use independent::owners::{self, Old};
@@ -28,7 +28,8 @@ fn by_each_line(w: &mut Writer, stealing: u8) {
             w.s.make([p, GO, 0]);
         }
         w.s.make([p, EXIT, 0]);
-        w.all(&["p", "b"]);
+        w.say("p");
+        w.s.goto(owning.session.moves.len() + owning.unlocks().len());
         w.turns(&[p]);
         w.all(&["p", "hash"]);
     }
@@ -139,7 +140,7 @@ fn scripted(w: &mut Writer) {
         w.say("keep");
         let turns: Vec<u8> = [1, 2, 3, 1, 3].repeat(7);
         w.turns(&turns);
-        w.all(&["p", "front", "b", "t 1", "t 2", "again", "vary 4"]);
+        w.all(&["p", "front", "g 7", "t 1", "t 2", "again", "vary 4"]);
         w.order(&turns);
         w.drive(config, turns.len());
         w.all(&["p", "front", "hash", "m 1 3 1"]);
@@ -166,7 +167,7 @@ fn old_records(w: &mut Writer) {
         w.say(&format!("# 16: {}", old.name));
         w.say("noise 21");
         load_old(w.s, &old);
-        w.all(&["p", "x", "front", "b", "m 1 0 0", "m 1 4 0", "m 0 5 0", "t 1"]);
+        w.all(&["p", "x", "front", "g 0", "m 1 0 0", "m 1 4 0", "m 0 5 0", "t 1"]);
         w.drive(config, 2);
         (1..=config.threads).for_each(|thread| w.say(&format!("q {thread}")));
         w.all(&["hash", "# its moves up to the exit, and the exit"]);
@@ -175,7 +176,7 @@ fn old_records(w: &mut Writer) {
         w.s.make(old.session.moves[before.moves.len()]);
         w.say("keep");
         w.s.tried("", [1, YIELD, 0]);
-        w.s.tried(&format!("c {APPLIED} {}\n", before.moves.len() + 1), [1, YIELD, 0]);
+        w.s.tried(&said(before.moves.len() as u16 + 1), [1, YIELD, 0]);
     }
 }
 

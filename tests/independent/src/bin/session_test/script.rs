@@ -1,7 +1,10 @@
 //! The script: the sessions of document 01, and each refusal at its boundaries.
 
 use crate::chains;
-use crate::commands::{first, mutex, processor, thread, Fields, APPLIED, BORN, FIELDS, STEALING};
+use crate::commands::{
+    first, mutex, processor, thread, Fields, APPLIED, BORN, FIELDS, KEPT, STEALING,
+};
+use crate::goings;
 use crate::journals;
 use crate::owner_exits;
 use crate::scripted;
@@ -10,7 +13,7 @@ use independent::journal::JOURNAL;
 use independent::machine::{
     Config, Move, Position, State, CREATE, EXIT, GO, LOCK, TRYLOCK, UNLOCK, YIELD,
 };
-use independent::random::{Call, Driver, Rates};
+use independent::random::{Call, Driver, Rates, Trail};
 use independent::record::Record;
 use independent::worked::{self, Worked};
 use std::fmt::Write;
@@ -59,6 +62,15 @@ impl Script {
         writeln!(self.0, "c {field} {value}").unwrap();
     }
 
+    /// So many moves are said to stand and to be kept.
+    pub fn say_applied(&mut self, applied: u16) {
+        self.raw(&said(applied));
+    }
+
+    pub fn goto(&mut self, step: usize) {
+        writeln!(self.0, "g {step}").unwrap();
+    }
+
     pub fn write(&mut self, at: usize, byte: u8) {
         writeln!(self.0, "w {at} {byte}").unwrap();
     }
@@ -78,10 +90,11 @@ impl Script {
         self.all(&[call, "a"]);
     }
 
-    /// After an edit the last move's words, a step back, a move and its processor's turn, each from
-    /// what was kept.
+    /// After an edit the last move's words, a going, a move and its processor's turn, each from what
+    /// was stored.
     pub fn tried(&mut self, edit: &str, [p, a, o]: Move) {
-        let calls = ["x".to_string(), "b".to_string(), format!("m {p} {a} {o}"), format!("t {p}")];
+        let calls =
+            ["x".to_string(), "g 0".to_string(), format!("m {p} {a} {o}"), format!("t {p}")];
         for call in calls {
             self.edited(edit, &call);
         }
@@ -92,8 +105,8 @@ impl Script {
         self.edited("", &format!("m {p} {a} {o}"));
     }
 
-    /// Tries a move with each byte of the standing moves changed in turn, to two others.
-    fn swept(&mut self, [p, a, o]: Move) {
+    /// Tries a move with each byte of the kept moves changed in turn, to two others.
+    pub fn swept(&mut self, [p, a, o]: Move) {
         writeln!(self.0, "keep\njournal 1 {p} {a} {o}\njournal 255 {p} {a} {o}\nagain").unwrap();
     }
 
@@ -107,6 +120,11 @@ impl Script {
     }
 }
 
+/// Lines by which so many moves are said to stand and to be kept.
+pub fn said(applied: u16) -> String {
+    format!("c {APPLIED} {applied}\nc {KEPT} {applied}\n")
+}
+
 /// Every call, with an operand that fits.
 fn calls(p: u8) -> [Move; 6] {
     [[p, LOCK, 1], [p, TRYLOCK, 1], [p, UNLOCK, 1], [p, YIELD, 0], [p, EXIT, 0], [p, CREATE, 1]]
@@ -117,7 +135,7 @@ fn starts(s: &mut Script) {
     s.say("# K1, K2, K3");
     for (p, b) in [(8, 32), (9, 32), (8, 0)] {
         s.start(Config::new(p, 32, 8, b));
-        s.all(&["picture", "xtouch", "move 1 0 0", "xtouch", "move 1 4 0", "back", "front"]);
+        s.all(&["picture", "xtouch", "move 1 0 0", "xtouch", "move 1 4 0", "goto 0", "front"]);
     }
     s.say("# 1 at its boundaries");
     for p in [0, 1, 8, 9, 255] {
@@ -132,7 +150,7 @@ fn starts(s: &mut Script) {
     s.say("# a fifth number");
     for fifth in FIFTHS {
         writeln!(s.0, "start 3 9 1 8{fifth}").unwrap();
-        s.all(&["picture", "move 1 4 0", "move 1 0 0", "back", "front"]);
+        s.all(&["picture", "move 1 4 0", "move 1 0 0", "goto 1", "front"]);
         writeln!(s.0, "start 3 9 1 10{fifth}\nstart 3 3 1 1{fifth}").unwrap();
         s.say("picture");
     }
@@ -145,7 +163,7 @@ fn starts(s: &mut Script) {
 }
 
 /// A session with its pictures and words, each move after what is refused by 4 or 5 there, then back
-/// to its start.
+/// to its start, past its end and forward again.
 fn there_and_back(s: &mut Script, name: &str, worked: &Worked) {
     writeln!(s.0, "# {name}").unwrap();
     s.start(worked.config);
@@ -164,13 +182,15 @@ fn there_and_back(s: &mut Script, name: &str, worked: &Worked) {
         state.try_move(made).expect("worked moves are accepted");
     }
     s.all(&["front", "hash"]);
-    for left in (0..worked.moves.len()).rev() {
-        s.all(&["b", "x"]);
-        if left % 3 == 0 {
+    let kept = worked.moves.len();
+    for step in (0..kept).rev().chain([kept + 1]).chain((2..=kept).step_by(5)) {
+        s.goto(step);
+        s.say("x");
+        if step % 3 == 0 {
             s.say("p");
         }
     }
-    s.all(&["b", "x", "front", "hash"]);
+    s.all(&["front", "hash"]);
 }
 
 /// Creates, yields and exits.
@@ -212,7 +232,7 @@ fn worked_sessions(s: &mut Script) {
     there_and_back(s, "threads that join their own queues", &worked::own_queues());
     s.say("# 16: no moves give this record, at L8");
     s.load(&worked::k8_record());
-    s.all(&["picture", "x", "move 2 0 0", "turn 2", "picture", "front", "back"]);
+    s.all(&["picture", "x", "move 2 0 0", "turn 2", "picture", "front", "goto 0"]);
     s.say("# K9");
     s.played(&Worked::new(Config::new(2, 2, 1, 2)).call(1, LOCK, 1).go(1, 1));
     s.all(&["move 2 3 1", "picture", "move 1 3 1", "picture"]);
@@ -253,7 +273,7 @@ fn wrong_moves(s: &mut Script) {
                 operands.iter().for_each(|&operand| s.try_move([1, action, operand]));
             }
             s.say("# 16 comes before 2, 3, 8 and the rest, where 4,000 are said to stand");
-            s.change(APPLIED, MOST);
+            s.say_applied(MOST);
             calls_at_most(s, p, t, m);
         }
     }
@@ -346,29 +366,31 @@ fn every_move(s: &mut Script) {
     }
 }
 
-/// 9, and the order 10, 15, 9, 16: a journal of any bytes is no cause where nothing is applied.
-fn steps_back_with_none(s: &mut Script) {
+/// 9, and the order 10, 15, 9, 16: a journal of any bytes is no cause where nothing is kept.
+fn goings_with_none(s: &mut Script) {
     s.say("# 9");
     s.say("noise 4");
     for config in [Config::new(1, 1, 1, 1), Config::new(8, 32, 8, 20)] {
         s.start(config);
         for length in LENGTHS {
             s.lend(length);
-            s.all(&["back", "front", "x"]);
+            s.all(&["goto 1", "goto 0", "goto 65535", "front", "x"]);
         }
         s.say("keep");
         for born in [0, u16::from(config.threads) + 1] {
             s.change(BORN, born);
-            s.all(&["back", "again"]);
+            s.all(&["goto 1", "goto 0", "again"]);
         }
     }
     s.say("# nothing applied, and yet not the start's state");
     s.played(&worked::k5());
-    s.change(APPLIED, 0);
-    s.all(&["x", "back", "move 1 1 1", "turn 1", "front", "back"]);
+    for field in [APPLIED, KEPT] {
+        s.change(field, 0);
+        s.all(&["x", "goto 1", "goto 0", "move 1 1 1", "turn 1", "front", "goto 17"]);
+    }
 }
 
-/// 10 for move, step back and front, before every other number, and no words.
+/// 10 for move, going and front, before every other number, and no words.
 fn short_journals(s: &mut Script) {
     s.say("# 10");
     let k7 = worked::k7();
@@ -380,18 +402,14 @@ fn short_journals(s: &mut Script) {
         for made in [[1, LOCK, 1], [1, GO, 0], [9, 9, 9], [1, UNLOCK, 1]] {
             s.try_move(made);
         }
-        s.all(&["x", "front", "back", "x", "front", "hash", "again"]);
+        s.all(&["x", "front", "goto 15", "x", "front", "hash", "again"]);
         for (field, value) in [(BORN, 0), (APPLIED, 0), (APPLIED, MOST), (processor(0, 0), 1)] {
             s.change(field, value);
             s.try_move([9, 9, 9]);
             s.change(field, value);
-            s.all(&["x", "back"]);
-            if value != MOST {
-                s.say("front");
-            }
-            s.say("again");
+            s.all(&["x", "goto 99", "front", "again"]);
         }
-        s.change(APPLIED, MOST - 1);
+        s.say_applied(MOST - 1);
         s.all(&["move 1 1 1", "hash"]);
         s.lend(JOURNAL + 1);
     }
@@ -419,6 +437,7 @@ fn highest(fields: &Fields, i: usize) -> u16 {
         86..=121 => within((i - 86) / 4, m, [t + 1, t, p, MOST][(i - 86) % 4]),
         122..=220 => within((i - 122) / 3, t, [5, p.max(m), t][(i - 122) % 3]),
         STEALING => 1,
+        KEPT => MOST,
         222..=229 => within(i - 221, p, t * fields.at(STEALING)),
         _ => within(i - 230, p, (p - 1) * fields.at(STEALING)),
     }
@@ -441,18 +460,19 @@ fn damages(fields: &Fields, i: usize, few: bool) -> Vec<u16> {
     values
 }
 
-/// 15 and 16: each field of a record changed, then the last move's words, a step back, the front, the
-/// picture, turns ahead, a move, a turn and the words again. With more threads or mutexes, or with the other choice of ready queues
-/// where none was used, the same moves give the record.
+/// 15 and 16: each field of a record changed, then the last move's words, a going, the front, the
+/// picture, turns ahead, a move, a turn and the words again. With more threads or mutexes, or with the
+/// other choice of ready queues where none was used, the same moves give the record.
 fn damaged(s: &mut Script, name: &str, record: &Record, made: Move, few: bool) {
     writeln!(s.0, "# 15, 16: fields of {name}").unwrap();
     s.all(&["keep", "picture"]);
     let fields = Fields::of(record);
-    let [p, a, o] = made;
+    let ([p, a, o], step) = (made, record.kept - 1);
     let looks = if few { "p\nq 1\n" } else { "p\np 0\nq 0\nq 1\nq 33\n" };
     for i in 0..FIELDS {
         for value in damages(&fields, i, few) {
-            write!(s.0, "c {i} {value}\nx\nb\nf\n{looks}m {p} {a} {o}\nt {p}\nx\na\n").unwrap();
+            let calls = format!("x\ng {step}\nf\n{looks}m {p} {a} {o}\nt {p}\nx\na\n");
+            write!(s.0, "c {i} {value}\n{calls}").unwrap();
         }
     }
     s.say("hash");
@@ -491,7 +511,7 @@ fn damaging_steps(s: &mut Script) {
         for made in [[p, GO, 0], [p, LOCK, 1], [p, GO, 1], [9, GO, 0]] {
             s.try_move(made);
         }
-        s.change(APPLIED, MOST);
+        s.say_applied(MOST);
         s.try_move([p, GO, 0]);
         let (field, value) = match name {
             "L1" => (mutex(1, 0), 1),
@@ -510,27 +530,17 @@ fn damaging_steps(s: &mut Script) {
     }
 }
 
-/// A random session with refused calls and steps back, its words and pictures now and then.
+/// A random session with refused calls and goings, its words and pictures now and then.
 fn random_calls(s: &mut Script, config: Config, seed: u64) {
     s.start(config);
-    let mut driver = Driver::new(seed, Rates { refused: 8, undo: 30, owner_exits: 0 });
-    let mut states = vec![State::start(config)];
+    let mut driver = Driver::new(seed, Rates { refused: 8, back: 60, goto: 12, owner_exits: 0 });
+    let mut trail = Trail::new(config);
     for count in 1..=250 {
-        let state = states.last().expect("a start");
-        match driver.next_call(state) {
-            Call::Move(made) => {
-                s.make(made);
-                let mut next = state.clone();
-                if next.try_move(made).is_ok() {
-                    states.push(next);
-                }
-            }
-            Call::Undo => {
-                s.say("b");
-                if states.len() > 1 {
-                    states.pop();
-                }
-            }
+        let call = driver.next_call(trail.state(), trail.kept());
+        trail.call(call);
+        match call {
+            Call::Move(made) => s.make(made),
+            Call::Goto(step) => s.goto(step.into()),
         }
         if count % 3 == 0 {
             s.say("x");
@@ -562,7 +572,7 @@ fn random_sessions(s: &mut Script) {
 /// The move that the session of 4,000 once had there, an exit by an owner; it is tried and refused.
 const OWNER_EXIT: (usize, Move) = (621, [8, EXIT, 0]);
 
-/// 4,000 moves, the refused ones after them, edited journals, steps back from the end, other moves.
+/// 4,000 moves, the refused ones after them, edited journals, goings from the end, other moves.
 fn longest(s: &mut Script) {
     s.say("# 4,000 moves");
     let worked = random(Config::new(8, 32, 8, 24), 9, usize::from(MOST));
@@ -586,26 +596,29 @@ fn longest(s: &mut Script) {
     s.say("# 16 in a full journal, where a move would be refused by 8");
     edited_places(s, &worked, &[0, 2_000, 3_999]);
     s.write(JOURNAL, 77);
-    s.all(&["back", "picture", "again"]);
-    s.say("# 16 with 3,999 moves");
-    s.all(&["back", "keep"]);
+    s.all(&["goto 3999", "picture", "again"]);
+    s.say("# 16 with 3,999 moves that stand, all kept");
+    s.all(&["goto 3999", "keep"]);
     edited_places(s, &worked, &[0, 1, 1_333, 3_000, 3_997, 3_998, 3_999]);
+    s.say("# 16 with 3,999 moves");
+    s.all(&[&format!("c {KEPT} 3999"), "keep"]);
+    edited_places(s, &worked, &[0, 3_998, 3_999]);
     s.swept(worked.moves[3_999]);
     s.make(worked.moves[3_999]);
     other_end(s, &worked);
     full(s);
-    s.all(&["back", "picture", "hash", "move 9 9 9", "back", "hash"]);
+    s.all(&["goto 3999", "picture", "hash", "move 9 9 9", "goto 3998", "hash"]);
 }
 
-/// Steps back from the end of 4,000 moves, and others in their place.
+/// Goings from the end of 4,000 moves and over all of them, and other moves in the last ones' place.
 fn other_end(s: &mut Script, worked: &Worked) {
-    s.say("# steps back from the end, and other moves");
+    s.say("# back over 4,000 moves and forward again, and other moves");
     let less = 100;
-    for count in 1..=less {
-        s.say("back");
-        if count % 25 == 0 {
-            s.all(&["picture", "hash"]);
-        }
+    let near = [3_999, 3_998, 3_990, 3_950];
+    let far = [0, 4_001, 3_999, 4_000, 1, 2_000, 4_000];
+    for step in near.into_iter().chain(far).chain([worked.moves.len() - less]) {
+        s.goto(step);
+        s.all(&["picture", "hash"]);
     }
     let mut state = worked.front(worked.moves.len() - less).state();
     let mut driver = Driver::new(10, Rates::ACCEPTED);
@@ -613,6 +626,7 @@ fn other_end(s: &mut Script, worked: &Worked) {
         let made = driver.likely_move(&state);
         state.try_move(made).expect("a likely move is accepted");
         s.make(made);
+        s.goto(usize::from(state.applied) + 1);
     }
     s.all(&["picture", "hash"]);
 }
@@ -636,7 +650,7 @@ fn full(s: &mut Script) {
     s.say("keep");
     for length in LENGTHS {
         s.lend(length);
-        s.all(&["x", "move 1 0 0", "back", "hash", "again"]);
+        s.all(&["x", "move 1 0 0", "goto 4001", "goto 3999", "hash", "again"]);
     }
 }
 
@@ -650,7 +664,7 @@ pub fn whole() -> String {
     unlocks(s);
     creates(s);
     every_move(s);
-    steps_back_with_none(s);
+    goings_with_none(s);
     short_journals(s);
     damaged_records(s);
     damaging_steps(s);
@@ -661,5 +675,6 @@ pub fn whole() -> String {
     scripted::add(w);
     journals::add(w);
     owner_exits::add(w);
+    goings::add(w);
     script.0
 }

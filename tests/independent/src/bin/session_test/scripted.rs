@@ -1,8 +1,8 @@
 //! The script's part on scripted threads: 19 at its boundaries, the order of refusals, which call
 //! is next, classes and their buffers.
 
-use crate::commands::{processor, ANSWERS, APPLIED, BORN, PICTURES, SCRIPTS, TURNS};
-use crate::script::{FIFTHS, LENGTHS, MOST};
+use crate::commands::{processor, ANSWERS, APPLIED, BORN, KEPT, PICTURES, SCRIPTS, TURNS};
+use crate::script::{said, FIFTHS, LENGTHS, MOST};
 use crate::writer::{picture_length, Writer};
 use independent::journal::JOURNAL;
 use independent::machine::{Config, CREATE, EXIT, LOCK, TRYLOCK, UNLOCK, YIELD};
@@ -101,7 +101,7 @@ fn order_at_turns(w: &mut Writer) {
                 w.s.lend(journal);
                 w.lend_scripts(scripts);
                 for p in [0, 1, 2, 3] {
-                    w.say(&format!("c {APPLIED} {applied}"));
+                    w.s.say_applied(applied);
                     w.say(&format!("c {BORN} {born}"));
                     w.turns(&[p]);
                     w.all(&["x", "a"]);
@@ -119,7 +119,7 @@ fn order_at_turns(w: &mut Writer) {
     }
 }
 
-/// A session of turns, its pictures now and then, and all of it back.
+/// A session of turns, its pictures now and then, goings in it, and all of it as a class.
 fn taken(w: &mut Writer, name: &str, config: Config, scripts: &[&[Call]], turns: &[u8]) {
     w.say(&format!("# {name}"));
     w.calls(scripts);
@@ -136,7 +136,7 @@ fn taken(w: &mut Writer, name: &str, config: Config, scripts: &[&[Call]], turns:
         }
     }
     w.all(&["p", "x", "front", "hash"]);
-    w.all(&["back", "x", "back", "x", "back", "x"]);
+    w.all(&["goto 5", "x", "goto 2", "x", "goto 4", "x"]);
     w.turns(&turns[..3]);
     w.all(&["p", "hash", "a"]);
     w.say("vary 3");
@@ -176,15 +176,15 @@ fn next_calls(w: &mut Writer) {
     taken(w, "refused turns", Config::new(4, 4, 1, 4), &refused, &turns);
 }
 
-/// A create that another has made is refused until that one is stepped back.
+/// A create that another has made is refused until it does not stand any more.
 fn tried_again(w: &mut Writer) {
     w.say("# a refused call stays next");
     w.calls(&[&[[CREATE, 3], [LOCK, 1]], &[[CREATE, 3]], &[]]);
     w.lend_scripts(3 * SCRIPT);
     w.init(Config::new(3, 3, 1, 2));
     w.turns(&[2, 1, 2, 3, 3, 1]);
-    for _ in 0..4 {
-        w.say("back");
+    for step in [3, 2, 4, 1, 0] {
+        w.s.goto(step);
         w.turns(&[1]);
     }
     w.turns(&[2, 1, 1]);
@@ -257,11 +257,14 @@ fn journals(w: &mut Writer) {
 /// What was kept with another B, and with another number of moves.
 fn other_records(w: &mut Writer, config: Config) {
     w.say("# another B, another number of moves");
-    for (field, value) in [(BORN, 1), (APPLIED, 0), (APPLIED, 3), (APPLIED, 5)] {
-        w.s.change(field, value);
+    let mut edits = vec![format!("c {BORN} 1\n"), format!("c {KEPT} 3\n"), format!("c {KEPT} 5\n")];
+    edits.extend([0, 3, 5].map(|applied| format!("c {APPLIED} {applied}\n")));
+    edits.extend([0, 3, 5].map(said));
+    for edit in edits {
+        w.s.raw(&edit);
         w.turns(&[1]);
         w.all(&["hash", "a"]);
-        w.s.change(field, value);
+        w.s.raw(&edit);
         w.drive(config, 3);
         w.all(&["hash", "a"]);
     }
@@ -308,7 +311,7 @@ fn buffers(w: &mut Writer) {
         let scripts = Generator::new(turns as u64).scripts(config);
         w.scripts(&scripts[..SCRIPT * usize::from(config.threads)]);
         w.lend_scripts(SCRIPTS);
-        w.generate(turns as u64, config.processors + 1);
+        w.build(turns as u64, config.processors + 1);
         w.init(config);
         w.say("keep");
         let pictures = turns * length;
@@ -333,7 +336,7 @@ fn buffers(w: &mut Writer) {
     }
 }
 
-/// Random scripts, several classes one after the other, plain moves and steps back between them.
+/// Random scripts, several classes one after the other, plain moves and goings between them.
 fn random_classes(w: &mut Writer) {
     for (seed, (p, t, m, b, stealing)) in (1..).zip([
         (2, 3, 1, 3, 0),
@@ -355,12 +358,12 @@ fn random_classes(w: &mut Writer) {
         for part in 1..=8 {
             let most = TURNS.min(PICTURES / picture_length(config));
             let turns = 1 + generator.below(most);
-            w.generate(10 * seed + part, p + generator.between(0, 1));
+            w.build(10 * seed + part, p + generator.between(0, 1));
             w.drive(config, turns);
             w.all(&["p", "hash"]);
             w.say("x");
             match part % 3 {
-                0 => w.all(&["back", "back", "back"]),
+                0 => (0..3).for_each(|_| w.s.goto(generator.below(120))),
                 1 => w.turns(&[1, 2, 1]),
                 _ => w.all(&["m 1 0 0", "m 1 4 0", "m 2 0 0", "m 2 5 0"]),
             }
@@ -380,7 +383,7 @@ fn at_the_end(w: &mut Writer) {
     w.all(&["p", "hash", "keep"]);
     w.say("# the last moves by turns");
     w.turns(&[1, 1, 1, 2, 2, 2, 1, 0, 3]);
-    w.all(&["p", "hash", "back"]);
+    w.all(&["p", "hash", "goto 3999"]);
     w.turns(&[1, 2, 2]);
     w.all(&["hash", "again"]);
     for turns in [&[1, 1, 1, 2, 2, 2, 1, 0, 3, 255][..], &[2; 6], &[1, 2, 2]] {

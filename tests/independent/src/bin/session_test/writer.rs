@@ -73,8 +73,8 @@ impl Writer<'_> {
     }
 
     /// The list of turns is filled with numbers from 0 to `most`.
-    pub fn generate(&mut self, seed: u64, most: u8) {
-        self.say(&format!("generate {seed} {most}"));
+    pub fn build(&mut self, seed: u64, most: u8) {
+        self.say(&format!("build {seed} {most}"));
         self.turns = [255; TURNS];
     }
 

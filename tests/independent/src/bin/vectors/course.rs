@@ -1,9 +1,10 @@
 //! Inputs of the line program `course` with the output it must give.
 
 use crate::sessions::busy_moves;
-use crate::{course_marks, owner_exits, Folder};
+use crate::{course_marks, goings, owner_exits, Folder};
 use independent::machine::{Config, GO};
 use independent::random::Generator;
+use independent::random_course::STEPS_BACK;
 use independent::worked::{self, Worked};
 use independent::{course, random_course, slips, spelling};
 use std::io;
@@ -24,7 +25,8 @@ const KEPT: [(u64, &[u8]); 5] = [
 
 fn random(seed: u64) -> Vec<u8> {
     let kept = KEPT.iter().find(|(of, _)| *of == seed);
-    kept.map_or_else(|| random_course::input(seed, 100), |(_, input)| input.to_vec())
+    let steps_back = || random_course::input(seed, 100, STEPS_BACK);
+    kept.map_or_else(steps_back, |(_, input)| input.to_vec())
 }
 
 /// A session with the view after the start and after each move, then the chart.
@@ -47,11 +49,10 @@ fn touched(stealing: u8) -> Vec<u8> {
     lines.extend(turns.map(|p| format!("turn {p}")));
     let moves = [[3, 2, 2], [3, 0, 0], [3, 7, 0], [3, 0, 0], [3, 0, 0], [3, 1, 2], [3, 0, 0]];
     lines.extend(moves.map(spelling::make_move));
-    lines.extend(
-        ["turns 1 1 1 1 1 2 2 2 2 2 2", "back", "turns 0 9", "turns 1 1", "start 9 9 9 9"]
-            .map(String::from),
-    );
-    lines.extend(vec!["back".to_string(); 38]);
+    lines.push("turns 1 1 1 1 1 2 2 2 2 2 2".to_string());
+    spelling::add_steps_back(&mut lines, 1);
+    lines.extend(["turns 0 9", "turns 1 1", "start 9 9 9 9"].map(String::from));
+    spelling::add_steps_back(&mut lines, 38);
     let viewed = lines.into_iter().flat_map(|line| [line, "view".to_string()]);
     spelling::input(&viewed.collect::<Vec<_>>())
 }
@@ -64,7 +65,8 @@ fn turn_by_turn() -> Vec<u8> {
         lines.extend([format!("turn {p}"), "show".to_string(), "view".to_string()]);
     }
     for _ in 0..22 {
-        lines.extend(["chart", "back"].map(String::from));
+        lines.push("chart".to_string());
+        spelling::add_steps_back(&mut lines, 1);
     }
     lines.extend(["show", "turns 1", "chart"].map(String::from));
     spelling::input(&lines)
@@ -122,7 +124,7 @@ fn refused_turns() -> Vec<u8> {
 
 /// Starts accepted and refused, what they leave of session and scripts.
 fn starts() -> Vec<u8> {
-    let first = ["view", "chart", "start 9 1 1 1", "view", "turn 1", "script 1", "help", "back"];
+    let first = ["view", "chart", "start 9 1 1 1", "view", "turn 1", "script 1", "help", "goto 0"];
     let begin =
         ["start 2 4 1 3", "script 1 1 1 3 1", "script 2 1 1", "script 4 4 0", "turns 1 2 1"];
     let refused =
@@ -136,7 +138,7 @@ fn starts() -> Vec<u8> {
     lines.extend(["start 2 4 1 3 1", "view", "turn 1", "turn 2", "chart"]);
     lines.extend(&begin);
     lines.extend(["start 1 1 1 1", "chart", "script 2", "script 1 4 0", "start 1 1 1 1"]);
-    lines.extend(["start 4 4 1 4", "turns 1 2 3 4", "view", "chart", "back", "back", "chart"]);
+    lines.extend(["start 4 4 1 4", "turns 1 2 3 4", "view", "chart", "goto 3", "goto 2", "chart"]);
     spelling::input(&lines)
 }
 
@@ -239,7 +241,7 @@ fn most_moves() -> Vec<u8> {
         "move 1 0 0",
         "move 1 7 0",
         "move 4 0 0",
-        "back",
+        "goto 3999",
         "view",
         "turns 4 3 3 2 1",
         "view",
@@ -318,8 +320,9 @@ pub fn write_all(folder: &Folder) -> io::Result<()> {
     let named = fixed().into_iter().chain(course_marks::all()).chain(endings());
     all.extend(named.map(|(name, input)| (name.into(), input)));
     all.extend((1..=41).map(|seed| (format!("random-{seed:02}"), random(seed))));
-    let viewed = |seed| (format!("viewed-{seed}"), random_course::viewed(seed, 60));
+    let viewed = |seed| (format!("viewed-{seed}"), random_course::viewed(seed, 60, STEPS_BACK));
     all.extend((1..=8).map(viewed));
+    all.extend(goings::course());
     for (name, input) in all {
         folder.write(&format!("{name}.in"), &input)?;
         folder.write(&format!("{name}.out"), course::run(&input).as_bytes())?;

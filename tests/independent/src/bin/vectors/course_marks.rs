@@ -78,7 +78,7 @@ fn current(worked: &Worked) -> Vec<u8> {
         lines.extend(marks(count));
     }
     for count in (0..last).rev() {
-        lines.push("back".to_string());
+        lines.push(spelling::goto(count as u16));
         lines.extend(marks(count));
     }
     spelling::input(&lines)

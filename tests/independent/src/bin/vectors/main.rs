@@ -4,6 +4,7 @@ mod chains;
 mod classes;
 mod course;
 mod course_marks;
+mod goings;
 mod marks;
 mod neighbours;
 mod owner_exits;

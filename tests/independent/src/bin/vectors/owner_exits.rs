@@ -71,7 +71,7 @@ fn owner_among_others(config: Config) -> Vec<String> {
         lines.extend(vec![spelling::make_move([made[0], GO, 0]); goes]);
         lines.extend(each_shown(&exits));
     }
-    lines.extend(vec!["back".to_string(); 30]);
+    spelling::add_steps_back(&mut lines, 30);
     lines.push("show".to_string());
     lines
 }
@@ -85,8 +85,9 @@ pub fn most_moves() -> Vec<u8> {
         let exits = [[1, EXIT, 0], [1, EXIT, 1], [3, EXIT, 0], [2, EXIT, 0], [2, GO, 0]];
         lines.extend(each_shown(&exits));
     }
-    lines.extend(["back", "back", "move 1 5 0", "move 1 3 1", "move 1 5 0"].map(String::from));
-    lines.extend(["move 1 0 0", "move 1 5 0", "back", "move 1 5 0", "show"].map(String::from));
+    lines.extend(["goto 3999", "goto 3998", "move 1 5 0", "move 1 3 1"].map(String::from));
+    lines.extend(["move 1 5 0", "move 1 0 0", "move 1 5 0", "goto 3999"].map(String::from));
+    lines.extend(["move 1 5 0", "show"].map(String::from));
     spelling::input(&lines)
 }
 
@@ -106,7 +107,7 @@ const SPENT: [&str; 15] = [
     "turns 1 1 1 1 1 1 1 1 1 1",
     "view",
     "chart",
-    "back",
+    "goto 28",
     "turn 1",
 ];
 

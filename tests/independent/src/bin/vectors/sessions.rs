@@ -1,9 +1,9 @@
 //! Scripts for the line program with the output it must give.
 
-use crate::{owner_exits, Folder};
+use crate::{goings, owner_exits, Folder};
 use independent::machine::{Config, Move, State};
 use independent::program;
-use independent::random::{is_stuck, Call, Driver, Generator, Rates};
+use independent::random::{is_stuck, Call, Driver, Generator, Rates, Trail};
 use independent::spelling;
 use independent::worked::{self, Worked};
 use std::io;
@@ -12,7 +12,8 @@ use std::io;
 /// such an exit led to, so its seed does not give it any more.
 const KEPT_EACH_2: &[u8] = include_bytes!("../../../../vectors/sessions/each-2.in");
 
-const RATES: Rates = Rates { refused: 8, undo: 30, owner_exits: 0 };
+/// Goings are single steps back.
+const RATES: Rates = Rates { refused: 8, back: 30, goto: 0, owner_exits: 0 };
 
 /// The session with the picture after the start and after each move, then `more`.
 fn shown(worked: &Worked, more: &[&str]) -> Vec<u8> {
@@ -24,7 +25,7 @@ fn shown(worked: &Worked, more: &[&str]) -> Vec<u8> {
     spelling::input(&lines)
 }
 
-fn random_session(
+pub fn random_session(
     config: Config,
     seed: u64,
     rates: Rates,
@@ -32,26 +33,16 @@ fn random_session(
     show_each: usize,
 ) -> Vec<u8> {
     let mut driver = Driver::new(seed, rates);
-    let mut states = vec![State::start(config)];
+    let mut trail = Trail::new(config);
     let mut lines = vec![spelling::start(config)];
-    for call in 1..=calls {
-        let state = &states[states.len() - 1];
-        match driver.next_call(state) {
-            Call::Move(made) => {
-                let mut next = state.clone();
-                if next.try_move(made).is_ok() {
-                    states.push(next);
-                }
-                lines.push(spelling::make_move(made));
-            }
-            Call::Undo => {
-                if states.len() > 1 {
-                    states.pop();
-                }
-                lines.push("back".to_string());
-            }
-        }
-        if call % show_each == 0 {
+    for count in 1..=calls {
+        let call = driver.next_call(trail.state(), trail.kept());
+        trail.call(call);
+        lines.push(match call {
+            Call::Move(made) => spelling::make_move(made),
+            Call::Goto(step) => spelling::goto(step),
+        });
+        if count % show_each == 0 {
             lines.push("show".to_string());
         }
     }
@@ -97,8 +88,8 @@ fn most_moves() -> Vec<u8> {
     for line in ["move 0 0 0", "move 4 0 0", "show"] {
         add(line);
     }
-    for _ in 0..8 {
-        add("back");
+    for step in (3_992..4_000).rev() {
+        add(&spelling::goto(step));
         add("show");
     }
     for &made in &moves[3_992..] {
@@ -106,7 +97,7 @@ fn most_moves() -> Vec<u8> {
     }
     add("show");
     add(&spelling::make_move(moves[3_999]));
-    add("back");
+    add("goto 3999");
     add(&spelling::make_move(moves[3_999]));
     add("move 1 0 0");
     add("show");
@@ -130,7 +121,7 @@ fn refusals() -> Vec<u8> {
         "start 8 31 8 32",
         // A start; 9
         "start 2 3 2 2",
-        "back",
+        "goto 1",
         // 2, also before 3
         "move 0 0 0",
         "move 3 0 0",
@@ -190,16 +181,16 @@ fn refusals() -> Vec<u8> {
         "show",
         "move 1 3 1",
         "move 1 6 1",
-        // Back to the start and once more
-        "back",
-        "back",
-        "back",
-        "back",
-        "back",
-        "back",
-        "back",
+        // Back to the start and 9 again
+        "goto 4",
+        "goto 3",
+        "goto 2",
+        "goto 1",
+        "goto 0",
+        "goto 6",
+        "goto 6",
         "show",
-        "back",
+        "goto 6",
         "show",
     ])
 }
@@ -233,12 +224,41 @@ fn odd_lines() -> Vec<u8> {
         "show 1",
         "?",
         "0",
-        "back ",
-        " back",
+        "back",
         "back 1",
-        "backs",
-        "bac",
-        "BACK",
+        "goto",
+        "goto ",
+        "goto  1",
+        "goto 1 ",
+        " goto 1",
+        "goto 01",
+        "goto 00",
+        "goto 0 0",
+        "goto 1 2",
+        "goto -1",
+        "goto +1",
+        "goto 1.",
+        "goto 0x1",
+        "goto 1a",
+        "goto a",
+        "goto,1",
+        "goto\t1",
+        "goto 4001",
+        "goto 4002",
+        "goto 9999",
+        "goto 04000",
+        "goto 10000",
+        "goto 40000",
+        "goto 65536",
+        "goto 65537",
+        "goto 4294967297",
+        "goto 18446744073709551617",
+        "gotos 1",
+        "got 1",
+        "Goto 1",
+        "GOTO 1",
+        "goto1",
+        "goto 1\r",
         "move",
         "move ",
         "move 1",
@@ -303,13 +323,13 @@ fn odd_lines() -> Vec<u8> {
         "start 1 1 1 1\r",
         "start1 1 1 1",
         "stop",
-        "goto 1",
+        "go 1",
         "start 1 1 1 1 0",
     ];
     let mut lines = odd.map(str::to_string).to_vec();
     lines.extend(["start 2 2 2 2".to_string(), "move 1 1 1".to_string(), "show".to_string()]);
     lines.extend(odd.map(str::to_string));
-    lines.extend(["show", "move 255 255 255", "move 1 0 0", "back", "show"].map(str::to_string));
+    lines.extend(["show", "move 255 255 255", "move 1 0 0", "goto 0", "show"].map(str::to_string));
     spelling::input(&lines)
 }
 
@@ -332,7 +352,7 @@ fn fifth_numbers() -> Vec<u8> {
 fn long_lines() -> Vec<u8> {
     let mut lines: Vec<Vec<u8>> = vec![b"start 1 1 1 1".to_vec(), b"show".to_vec()];
     for length in [59, 60, 61, 63, 64, 65, 66, 127, 128, 129, 130, 255, 256, 257] {
-        for tail in ["", "show", "back", "move 1 1 1", "start 2 2 2 2"] {
+        for tail in ["", "show", "goto 0", "move 1 1 1", "start 2 2 2 2"] {
             // After the filler, and before it.
             lines.push([&vec![b'x'; length][..], tail.as_bytes()].concat());
             lines.push([tail.as_bytes(), &vec![b' '; length][..]].concat());
@@ -366,6 +386,8 @@ fn any_bytes() -> Vec<u8> {
         lines.push([&[byte][..], b"show"].concat());
         lines.push([b"move 1 1 ", &[byte][..]].concat());
         lines.push([b"move", &[byte][..], b"9 1 1"].concat());
+        lines.push([b"goto ", &[byte][..]].concat());
+        lines.push([b"goto", &[byte][..], b"1"].concat());
         lines.push([b"start 1 1 1 1", &[byte][..]].concat());
     }
     lines.push(b"sh\0ow".to_vec());
@@ -381,7 +403,7 @@ fn any_bytes() -> Vec<u8> {
 /// A line of every length from 0 to 70, random bytes of the commands' letters.
 fn noise() -> Vec<u8> {
     let mut generator = Generator::new(9);
-    let letters = b"showbackmovestart 0123456789  112";
+    let letters = b"showgotomovestart 0123456789  112";
     let mut lines: Vec<Vec<u8>> = vec![b"start 3 4 2 4".to_vec()];
     for length in (0..=70).chain(0..=24) {
         lines.push((0..length).map(|_| generator.pick(letters)).collect());
@@ -390,12 +412,13 @@ fn noise() -> Vec<u8> {
     spelling::input(&lines)
 }
 
-/// Each of the first n moves, then all of them back and one more.
+/// All moves, then back to the start by single steps, and a going that is refused.
 fn there_and_back(worked: &Worked) -> Vec<u8> {
     let mut lines = vec![spelling::start(worked.config)];
     lines.extend(worked.moves.iter().map(|&made| spelling::make_move(made)));
-    for _ in 0..=worked.moves.len() {
-        lines.extend(["show".to_string(), "back".to_string()]);
+    let kept = worked.moves.len() as u16;
+    for step in (0..kept).rev().chain([kept + 1]) {
+        lines.extend(["show".to_string(), spelling::goto(step)]);
     }
     lines.push("show".to_string());
     spelling::input(&lines)
@@ -440,17 +463,17 @@ fn fixed() -> Vec<(&'static str, Vec<u8>)> {
             "before-start",
             spelling::input(&[
                 "show",
-                "back",
+                "goto 0",
                 "move 1 0 0",
                 "move 0 0 0",
                 "start 0 1 1 1",
                 "show",
-                "back",
+                "goto 1",
                 "start 1 1 1",
                 "move 1 1 1",
                 "start 1 1 1 1",
                 "show",
-                "back",
+                "goto 1",
             ]),
         ),
         (
@@ -467,12 +490,12 @@ fn fixed() -> Vec<(&'static str, Vec<u8>)> {
                 "show",
                 "start 2 2 2 1",
                 "show",
-                "back",
+                "goto 1",
                 "move 2 0 0",
                 "show",
-                "back",
+                "goto 0",
                 "show",
-                "back",
+                "goto 2",
             ]),
         ),
         ("refusals", refusals()),
@@ -484,8 +507,8 @@ fn fixed() -> Vec<(&'static str, Vec<u8>)> {
         ("long-lines", long_lines()),
         ("any-bytes", any_bytes()),
         ("noise", noise()),
-        ("each-steals-1", shown(&worked::steals(1), &["back", "back", "show"])),
-        ("each-steals-2", shown(&worked::steals(2), &["back", "back", "show"])),
+        ("each-steals-1", shown(&worked::steals(1), &["goto 22", "goto 21", "show"])),
+        ("each-steals-2", shown(&worked::steals(2), &["goto 22", "goto 21", "show"])),
         ("each-steals-3", there_and_back(&worked::steals(3))),
         ("each-own-queues", shown(&worked::own_queues(), &[])),
         ("back-k7", there_and_back(&worked::k7())),
@@ -517,6 +540,7 @@ pub fn write_all(folder: &Folder) -> io::Result<()> {
         all.push((format!("each-{seed}"), input));
     }
     all.extend(random_owners());
+    all.extend(goings::sessions());
     for (name, input) in all {
         folder.write(&format!("{name}.in"), &input)?;
         folder.write(&format!("{name}.out"), program::run(&input).as_bytes())?;
