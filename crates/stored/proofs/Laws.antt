@@ -18,6 +18,7 @@ use Rattle.stored.specs.Stored.{session-bytes, session-in, bytes-after}
 use Rattle.stored.specs.Calls.{start-number, start-bytes, move-bytes, turn-bytes, goto-bytes}
 use Rattle.stored.specs.Laws.{Laws}
 use Rattle.stored.proofs.RoundTrip.{reads-back, writes-back}
+use Rattle.stored.proofs.Sessions.{begins, is-session, refused}
 use Rattle.stored.proofs.Valid.{Left, start-left, move-left, turn-left, goto-left}
 
 -- what a call leaves is read again: accepted, the record that was written; refused, the one that stood there
@@ -34,6 +35,8 @@ pub laws : Laws
 unfolding start-bytes move-bytes turn-bytes goto-bytes moved turned went
 laws =
     record {
+      sessions = λ b w. (begins b, is-session b w);
+      refused = refused;
       reads-back = λ r v rest. reads-back r (v .0) (v .1) rest;
       writes-back = writes-back;
       start = λ c b e.

@@ -2,6 +2,7 @@
 pub mod Reading
 pub mod Writing
 pub mod RoundTrip
+pub mod Sessions
 pub mod Valid
 pub mod Answered
 pub mod Cases

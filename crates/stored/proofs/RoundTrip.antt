@@ -9,7 +9,7 @@ use native.Mathlib.Omega.{arith}
 use lib.Dec.{leb}
 use lib.ListN.{length, take, drop, length-append, length-take, take-append-drop, List·getD-eq-default}
 use lib.Seq.{take-at, length-take-le, getD-append-add, getD-take, drop-cons}
-use borrow.Author.Tests.{leb-true, eqb-true}
+use borrow.Author.Tests.{le-leb, leb-true, eqb-true}
 use Rattle.state.specs.declared.Session.{Session}
 use Rattle.state.specs.Record.{Sized, zero-state, zero-session}
 use Rattle.state.specs.Association.{decode}
@@ -73,7 +73,7 @@ unfolding session-ok state-ok broken-rule fields-ok zero-state
 no-session = refl
 
 -- a session's record stands at the front
-pub there : (b : List ℕ) → session-ok (session-in b) ≡ true → is-there b ≡ true
+there : (b : List ℕ) → session-ok (session-in b) ≡ true → is-there b ≡ true
 unfolding session-in
 there b e = go (is-there b) refl
   where
@@ -87,15 +87,16 @@ pub record Fronted (b : List ℕ) : Type 0 where
   pub reads : read-refusal (picture-in b) ≡ 0
   pub is : session-in b ≡ record { state = read (picture-in b) .state; initial = byte b (picture-end b); kept = two-at b (picture-end b + 1) }
 
-pub fronted : (b : List ℕ) → session-ok (session-in b) ≡ true → Fronted b
+pub fronted-by : (b : List ℕ) → picture-end b + 3 ≤ length b → read-refusal (picture-in b) ≡ 0 → Fronted b
 unfolding session-in is-there
+fronted-by b fits reads = record { fits = fits; reads = reads; is = rw (le-leb (picture-end b + 3) (length b) fits, reads) }
+
+pub fronted : (b : List ℕ) → session-ok (session-in b) ≡ true → Fronted b
+unfolding is-there
 fronted b e =
     let h = there b e in
-    record {
-      fits = leb-true (picture-end b + 3) (length b) (both-left (leb (picture-end b + 3) (length b)) _ h);
-      reads = eqb-true _ 0 (both-right (leb (picture-end b + 3) (length b)) _ h);
-      is = rw h;
-    }
+    fronted-by b (leb-true (picture-end b + 3) (length b) (both-left (leb (picture-end b + 3) (length b)) _ h))
+    (eqb-true _ 0 (both-right (leb (picture-end b + 3) (length b)) _ h))
 
 three : (b : List ℕ) (k : ℕ) → k + 3 ≤ length b → drop k b ≡ byte b k ∷ byte b (k + 1) ∷ byte b (k + 1 + 1) ∷ drop (k + 3) b
 three b k h =
@@ -106,7 +107,7 @@ three b k h =
     ap (λ (t : List ℕ). byte b k ∷ byte b (suc k) ∷ t) (drop-cons b (suc (suc k)) 0 (omega arith)) ∙
     sym (λ i. byte b k ∷ byte b (one i) ∷ byte b (more i) ∷ drop (all i) b)
 
-take-bytes : (b : List ℕ) (k : ℕ) → Bytes b → Bytes (take k b)
+pub take-bytes : (b : List ℕ) (k : ℕ) → Bytes b → Bytes (take k b)
 take-bytes b k f i = elim (decLt i k) [ yes h ↦ omega (arith, getD-take k b i 0 h, f i) | no h ↦ omega (arith, List·getD-eq-default (take k b) 0 {n = i} (omega (arith, length-take k b))) ]
 
 pub writes-back : (b : List ℕ) → Bytes b → session-ok (session-in b) ≡ true → with-front b (session-bytes (session-in b)) ≡ b

@@ -1,2 +1,2 @@
--- What inner contracts ask, which nobody needs to believe.
+-- What only inner contracts cite: nobody needs to believe it.
 pub mod Writable

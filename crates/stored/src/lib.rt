@@ -19,7 +19,7 @@ use state::refusal::Refusal;
 // What a refusal's number is added to where a length is asked for.
 const REFUSED: u16 = 20000;
 
-// Begins a session: its bytes at the front, the later bytes kept.
+// Begins a session: 1, 10, else 0, with its bytes at the front and the later bytes kept.
 pub fn start(p: u8, t: u8, m: u8, b: u8, stealing: u8, session: &mut [u8]) -> u8
     ensures number { λ r. ⌜ r ≡ start-number (table p t m b stealing) (length (now (session .entry))) ⌝ }
     ensures session { λ r. ⌜ now (session .exit) ≡ start-bytes (table p t m b stealing) (now (session .entry)) ⌝ }
@@ -37,7 +37,7 @@ pub fn start(p: u8, t: u8, m: u8, b: u8, stealing: u8, session: &mut [u8]) -> u8
     0
 }
 
-// Moves processor p.
+// Moves processor p, as session::make_move does.
 pub fn make_move(session: &mut [u8], journal: &mut [u8], p: u8, a: u8, o: u8) -> u8
     ensures number { λ r. ⌜ r ≡ moved (session-in (now (session .entry))) (now (journal .entry)) (move-of p a o) .refusal ⌝ }
     ensures session { λ r. ⌜ now (session .exit) ≡ move-bytes (now (session .entry)) (now (journal .entry)) (move-of p a o) ⌝ }
@@ -50,7 +50,7 @@ pub fn make_move(session: &mut [u8], journal: &mut [u8], p: u8, a: u8, o: u8) ->
     refusal
 }
 
-// A turn of processor p, by the scripts.
+// A turn of processor p, as turns::turn makes it.
 pub fn turn(session: &mut [u8], journal: &mut [u8], scripts: &[u8], p: u8) -> u8
     ensures number { λ r. ⌜ r ≡ turned (session-in (now (session .entry))) (now (journal .entry)) (now (scripts .entry)) p .refusal ⌝ }
     ensures session { λ r. ⌜ now (session .exit) ≡ turn-bytes (now (session .entry)) (now (journal .entry)) (now (scripts .entry)) p ⌝ }
@@ -63,7 +63,7 @@ pub fn turn(session: &mut [u8], journal: &mut [u8], scripts: &[u8], p: u8) -> u8
     refusal
 }
 
-// Goes to step k.
+// Goes to step k, as session::goto does.
 pub fn goto(session: &mut [u8], journal: &[u8], k: usize) -> u8
     ensures number { λ r. ⌜ r ≡ went (session-in (now (session .entry))) (now (journal .entry)) k .refusal ⌝ }
     ensures session { λ r. ⌜ now (session .exit) ≡ goto-bytes (now (session .entry)) (now (journal .entry)) k ⌝ }
@@ -75,7 +75,7 @@ pub fn goto(session: &mut [u8], journal: &[u8], k: usize) -> u8
     refusal
 }
 
-// The picture of its state into a buffer's front: 15, 10, else 0.
+// The picture of the session's state into a buffer's front, its later bytes kept: 15, 10, else 0.
 pub fn picture(session: &[u8], buffer: &mut [u8]) -> u8
     ensures number { λ r. ⌜ r ≡ picture-number (now (session .entry)) (length (now (buffer .entry))) ⌝ }
     ensures written { λ r. ⌜ now (buffer .exit) ≡ picture-after (now (session .entry)) (now (buffer .entry)) ⌝ }
@@ -88,7 +88,7 @@ pub fn picture(session: &[u8], buffer: &mut [u8]) -> u8
     Refusal::BAD_RECORD
 }
 
-// How long the journal's front is, in bytes.
+// How many bytes of the journal are its front, or 20,000 and the number that refuses it: 10, 15.
 pub fn front(session: &[u8], journal: &[u8]) -> u16
     ensures { λ r. ⌜ r ≡ front-number (now (session .entry)) (now (journal .entry)) ⌝ }
 {
