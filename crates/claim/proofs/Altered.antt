@@ -84,6 +84,16 @@ with-moved f =
     let o : Outcome = calls r j (move a) in
     record { refusal = o .refusal; session = choose (eqb (o .refusal) 0) (f r a (o .session)) (o .session); touch = o .touch; journal = o .journal; buffers = [] })
 
+-- a move that is refused by k, made where k is 0
+unfoldable pub made-unless : ℕ → Session → List ℕ → Move → Outcome
+made-unless k r j a =
+    move-outcome (move-answered k (session-record (next (shown r) a) (r .initial) (suc (shown r .applied))) r (touch (shown r) a))
+    (choose (eqb k 0) (written-at (shown r .applied) a j) j)
+
+-- what a call leaves, but for the record
+abbrev pub with-session : Session → Outcome → Outcome
+with-session s o = record { refusal = o .refusal; session = s; touch = o .touch; journal = o .journal; buffers = o .buffers }
+
 -- the record after a move that does no more than stand its processor at line l
 abbrev pub only-jumps : Line → Session → Move → Session
 only-jumps l r a =

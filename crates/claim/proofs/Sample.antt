@@ -14,7 +14,7 @@ use Rattle.reference.specs.Step.{Move, move-of, next, run, act, action-of, line
 use Rattle.reference.specs.Cause.{cause, accepted}
 use Rattle.reference.specs.Script.{script-ok, scripts-ok, progress, turn-move, class-moves, class-answers}
 use Rattle.reference.specs.Touch.{nothing}
-use Rattle.reference.specs.Session.{Opening, scripted, Request, move, turn, class, goto, own, other, Reply, bytes, moves, Listed, all-standing, replays, replies}
+use Rattle.reference.specs.Session.{Opening, scripted, Request, move, turn, class, goto, own, other, Reply, bytes, moves, all-standing, replays, replies}
 use Rattle.turns.specs.Contract as turns
 use Rattle.claim.specs.Implementation.{contract}
 use Rattle.claim.specs.Demand3.{Event, asks, writes, passes, asked, responses, IsSession, opening, Agrees}

@@ -6,16 +6,15 @@ use mathlib.Core.Path.{_≡_, refl, ap}
 use native.Mathlib.Omega.{arith}
 use native.Mathlib.Bridge.{le-by-compare, IsLe}
 use lib.Dec.{eqb}
-use lib.ListN.{length, getD}
+use lib.ListN.{getD}
 use Rattle.state.specs.declared.Processor.{Processor}
 use Rattle.state.specs.declared.Session.{Session}
 use Rattle.state.specs.Record.{zero-processor, processor-of}
-use Rattle.state.specs.Association.{session-record}
 use Rattle.state.specs.model.Access.{with-applied, with-processor}
 use Rattle.reference.specs.Lists.{choose}
 use Rattle.reference.specs.State.{Line, CI2, L7, H2, H5, same-line, processor-at}
-use Rattle.reference.specs.Start.{Config, start}
-use Rattle.reference.specs.Step.{Move, move-of, run}
+use Rattle.reference.specs.Start.{Config}
+use Rattle.reference.specs.Step.{Move, move-of}
 use Rattle.reference.specs.Touch.{nothing}
 use Rattle.reference.specs.Session.{move}
 use Rattle.picture.specs.Turns.{Answer as TurnsAhead}

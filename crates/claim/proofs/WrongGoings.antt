@@ -14,18 +14,17 @@ use Rattle.reference.specs.Refusal.{refuse}
 use Rattle.reference.specs.Lists.{choose, in-range}
 use Rattle.reference.specs.State.{same-state}
 use Rattle.reference.specs.Start.{start}
-use Rattle.reference.specs.Step.{Move, move-of, next, run}
+use Rattle.reference.specs.Step.{Move, move-of, run}
 use Rattle.reference.specs.Cause.{cause, accepted}
 use Rattle.reference.specs.Script.{progress, turn-move}
-use Rattle.reference.specs.Touch.{touch}
 use Rattle.reference.specs.Session.{move, turn, class, goto, moves, short}
-use Rattle.session.specs.Contract.{shown, config-of, answered, move-answered, or-later, lent-refusal, standing, matches, goto-refusal, written-at}
-use Rattle.claim.specs.Implementation.{Outcome, Implementation, outcome, move-outcome, calls}
+use Rattle.session.specs.Contract.{shown, config-of, answered, or-later, lent-refusal, standing, matches}
+use Rattle.claim.specs.Implementation.{Outcome, Implementation, outcome, calls}
 use Rattle.claim.specs.Demand2.{Demand2}
 use Rattle.claim.specs.Demand3.{Event, Demand3}
 use Rattle.claim.specs.Sound.{Sound}
 use Rattle.claim.proofs.Sample.{ask, long, after-moves}
-use Rattle.claim.proofs.Altered.{with-move, with-turn, with-class, with-goto, turn-by, scripts-refusal, one, alone, after-start, lock-move, locks, with-own, with-unrelated, number, computing}
+use Rattle.claim.proofs.Altered.{with-move, with-turn, with-class, with-goto, with-moved, with-session, made-unless, turn-by, scripts-refusal, one, alone, after-start, lock-move, locks, with-own, with-unrelated, number, computing}
 
 abbrev go : Move
 go = move-of 1 0 0
@@ -48,7 +47,7 @@ refusal-drops =
     with-move
     (λ r j a.
     let o : Outcome = calls r j (move a) in
-    record { refusal = o .refusal; session = choose (eqb (o .refusal) 0) (o .session) (keeping (r .state .applied) r); touch = o .touch; journal = o .journal; buffers = [] })
+    with-session (choose (eqb (o .refusal) 0) (o .session) (keeping (r .state .applied) r)) o)
 
 refusal-drops-breaks-3 : ¬ (Demand3 refusal-drops)
 unfolding refusal-drops computing
@@ -63,7 +62,7 @@ class-drops =
     with-class
     (λ r j x ps a b.
     let o : Outcome = calls r j (class x ps a b) in
-    record { refusal = o .refusal; session = choose (eqb (o .refusal) 0) (keeping (o .session .state .applied) (o .session)) r; touch = o .touch; journal = o .journal; buffers = o .buffers })
+    with-session (choose (eqb (o .refusal) 0) (keeping (o .session .state .applied) (o .session)) r) o)
 
 class-drops-breaks-3 : ¬ (Demand3 class-drops)
 unfolding class-drops computing
@@ -75,12 +74,7 @@ class-drops-breaks-3 d =
 -- ---- An accepted move keeps the moves beyond it.
 
 move-keeps : Implementation
-move-keeps =
-    with-move
-    (λ r j a.
-    let o : Outcome = calls r j (move a) in
-    let more : ℕ = choose (ltb (r .state .applied) (r .kept)) (r .kept) (suc (r .state .applied)) in
-    record { refusal = o .refusal; session = choose (eqb (o .refusal) 0) (keeping more (o .session)) r; touch = o .touch; journal = o .journal; buffers = [] })
+move-keeps = with-moved (λ r a right. keeping (choose (ltb (r .state .applied) (r .kept)) (r .kept) (suc (r .state .applied))) right)
 
 move-keeps-breaks-2 : ¬ (Demand2 move-keeps)
 unfolding move-keeps computing
@@ -102,7 +96,7 @@ goto-forgets =
     with-goto
     (λ r j k.
     let o : Outcome = calls r j (goto k) in
-    record { refusal = o .refusal; session = choose (eqb (o .refusal) 0) (keeping k (o .session)) r; touch = o .touch; journal = j; buffers = [] })
+    with-session (choose (eqb (o .refusal) 0) (keeping k (o .session)) r) o)
 
 goto-forgets-breaks-3 : ¬ (Demand3 goto-forgets)
 unfolding goto-forgets computing
@@ -171,14 +165,10 @@ goto-standing-only-unsound s =
 
 move-standing-only : Implementation
 move-standing-only =
-    with-move
-    (λ r j a.
-    let k : ℕ = or-later (lent-refusal r (length j)) (refuse (not (standing-matches r j)) 16 (cause (shown r) a)) in
-    move-outcome (move-answered k (session-record (next (shown r) a) (r .initial) (suc (shown r .applied))) r (touch (shown r) a))
-    (choose (eqb k 0) (written-at (shown r .applied) a j) j))
+    with-move (λ r j a. made-unless (or-later (lent-refusal r (length j)) (refuse (not (standing-matches r j)) 16 (cause (shown r) a))) r j a)
 
 move-standing-only-breaks-3 : ¬ (Demand3 move-standing-only)
-unfolding move-standing-only standing-matches computing
+unfolding move-standing-only standing-matches made-unless computing
 move-standing-only-breaks-3 d =
     let n : _≡_ {A = ℕ} 0 16 = number (d .sessions alone long refl gone-back (tt, (tt, (tt, tt))) .answers-next (with-unrelated (move lock-move))) in
     omega arith
@@ -191,17 +181,13 @@ lent-by rule r n = refuse (short n) 10 (refuse (not (state-ok (r .state) && in-r
 
 abbrev with-rule : (Session → Bool) → Implementation
 with-rule rule =
-    with-move
-    (λ r j a.
-    let k : ℕ = or-later (lent-by rule r (length j)) (refuse (not (matches r j)) 16 (cause (shown r) a)) in
-    move-outcome (move-answered k (session-record (next (shown r) a) (r .initial) (suc (shown r .applied))) r (touch (shown r) a))
-    (choose (eqb k 0) (written-at (shown r .applied) a j) j))
+    with-move (λ r j a. made-unless (or-later (lent-by rule r (length j)) (refuse (not (matches r j)) 16 (cause (shown r) a))) r j a)
 
 kept-below : Implementation
 kept-below = with-rule (λ r. in-range 0 4000 (r .kept))
 
 kept-below-breaks-2 : ¬ (Demand2 kept-below)
-unfolding kept-below lent-by computing
+unfolding kept-below lent-by made-unless computing
 kept-below-breaks-2 d =
     let ms : List Move = lock-move ∷ [] in
     let n : _≡_ {A = ℕ} 0 15 = d .moves (keeping 0 (after-start one ms)) (after-moves ms) go .number in
@@ -212,7 +198,7 @@ kept-above = with-rule (λ r. in-range (r .state .applied) 65535 (r .kept))
 
 -- 16 where it should be 15
 kept-above-breaks-2 : ¬ (Demand2 kept-above)
-unfolding kept-above lent-by computing
+unfolding kept-above lent-by made-unless computing
 kept-above-breaks-2 d =
     let n : _≡_ {A = ℕ} 16 15 = d .moves (keeping 4001 (after-start one [])) long lock-move .number in
     omega arith

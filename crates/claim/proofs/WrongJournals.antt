@@ -1,34 +1,27 @@
 -- Wrong tests of the journal at a move and at a turn, each of which breaks demand 3 and, where it lets something pass, `Sound` (document 02, No. 6).
 -- Assumes nothing.
-use Prim.Native.Nat.{ℕ, suc, _-_}
+use Prim.Native.Nat.{ℕ, _-_}
 use mathlib.Core.Bool.{Bool, true, false, not, true≢false}
 use mathlib.Core.List.{List, [], _∷_}
 use mathlib.Core.Path.{_≡_, refl, sym, ap}
 use native.Mathlib.Omega.{arith}
-use lib.Dec.{eqb}
 use lib.ListN.{length, replicate}
 use Rattle.state.specs.declared.Session.{Session}
 use Rattle.state.specs.Association.{session-record}
 use Rattle.reference.specs.Refusal.{refuse}
-use Rattle.reference.specs.Lists.{choose, in-range}
+use Rattle.reference.specs.Lists.{in-range}
 use Rattle.reference.specs.State.{State, processor-at}
 use Rattle.reference.specs.Start.{start}
-use Rattle.reference.specs.Step.{Move, move-of, next}
+use Rattle.reference.specs.Step.{Move, move-of}
 use Rattle.reference.specs.Cause.{cause, accepted}
-use Rattle.reference.specs.Touch.{touch}
 use Rattle.reference.specs.Session.{Request, move, turn, other, Call, Listed, moves}
-use Rattle.session.specs.Contract.{shown, config-of, answered, move-answered, or-later, lent-refusal, standing, matches, written-at}
+use Rattle.session.specs.Contract.{shown, config-of, answered, or-later, lent-refusal, standing, matches}
 use Rattle.turns.specs.Contract.{turn-made}
-use Rattle.claim.specs.Implementation.{Outcome, Implementation, outcome, move-outcome, calls}
+use Rattle.claim.specs.Implementation.{Outcome, Implementation, outcome, calls}
 use Rattle.claim.specs.Demand3.{Demand3}
 use Rattle.claim.specs.Sound.{Sound}
 use Rattle.claim.proofs.Sample.{long, after-moves}
-use Rattle.claim.proofs.Altered.{with-move, with-turn, scripts-refusal, one, alone, after-start, lock-move, locks, with-unrelated, number, computing}
-
--- a move that is refused by k, made where k is 0
-made-unless : ℕ → Session → List ℕ → Move → Outcome
-made-unless k r j a =
-    move-outcome (move-answered k (session-record (next (shown r) a) (r .initial) (suc (shown r .applied))) r (touch (shown r) a)) (choose (eqb k 0) (written-at (shown r .applied) a j) j)
+use Rattle.claim.proofs.Altered.{with-move, with-turn, scripts-refusal, one, alone, after-start, lock-move, locks, with-unrelated, made-unless, number, computing}
 
 -- 10, 15, then 16 where the test says so, then `first`, then the move's causes
 abbrev testing : Bool → ℕ → Session → List ℕ → Move → Outcome

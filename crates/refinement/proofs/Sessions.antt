@@ -1,4 +1,4 @@
--- A sitting on bytes: the record in the bytes and the journal are those of the session on records, call by call.
+-- A session on bytes: the record in the bytes and the journal are those of the session on records, call by call.
 -- Assumes nothing.
 use Prim.Native.Nat.{ℕ, _*_, _≤_}
 use mathlib.Core.Bool.{true, not}
@@ -33,7 +33,7 @@ use Rattle.claim.specs.Implementation.{contract}
 use Rattle.claim.specs.Demand3 as claim
 use Rattle.claim.specs.Demand3.{Event, asks, Held, lent-to, held-after, responses, IsSession, opening}
 use Rattle.claim.proofs.Demand3.{Reached, reached, demand3}
-use Rattle.sitting.specs.Sitting.{Ask, moves, turns, goes, request, asked, Kept, number, after, numbers, kept-after, refusals, Agrees, Sittings}
+use Rattle.refinement.specs.Sessions.{Ask, moves, turns, goes, request, asked, Kept, number, after, numbers, kept-after, refusals, Agrees, StoredSessions}
 
 -- the calls as events of a session on records
 unfoldable events : List Ask → List Event
@@ -61,13 +61,18 @@ number-is k r o e (moves a) = ap (λ (s : Session). moved s o a .refusal) e
 number-is k r o e (turns x p) = ap (λ (s : Session). turned s o x p .refusal) e
 number-is k r o e (goes n) = ap (λ (s : Session). went s o n .refusal) e
 
+-- what a call leaves is what the entry point by value leaves of the record in the bytes
+left-is : (k : Kept) (q : Ask) →
+    (session-in (after k q .session) ≡ contract .call (session-in (k .session)) (k .journal) (request q) .session) ×
+    (after k q .journal ≡ contract .call (session-in (k .session)) (k .journal) (request q) .journal)
+left-is k (moves a) = (laws .move (k .session) (k .journal) a, refl)
+left-is k (turns x p) = (laws .turn (k .session) (k .journal) x p, refl)
+left-is k (goes n) = (laws .goto (k .session) (k .journal) n, refl)
+
 same-after : (k : Kept) (h : Held) → Same k h → (q : Ask) → Same (after k q) (claim.step contract h (asks (record { request = request q; lent = own })))
-same-after k h s (moves a) =
-    (laws .move (k .session) (k .journal) a ∙ (λ i. contract .call (s .0 i) (s .1 i) (request (moves a)) .session), λ i. contract .call (s .0 i) (s .1 i) (request (moves a)) .journal)
-same-after k h s (turns x p) =
-    (laws .turn (k .session) (k .journal) x p ∙ (λ i. contract .call (s .0 i) (s .1 i) (request (turns x p)) .session), λ i. contract .call (s .0 i) (s .1 i) (request (turns x p)) .journal)
-same-after k h s (goes n) =
-    (laws .goto (k .session) (k .journal) n ∙ (λ i. contract .call (s .0 i) (s .1 i) (request (goes n)) .session), s .1)
+same-after k h s q =
+    let l = left-is k q in
+    (l .0 ∙ (λ i. contract .call (s .0 i) (s .1 i) (request q) .session), l .1 ∙ (λ i. contract .call (s .0 i) (s .1 i) (request q) .journal))
 
 same-all : (qs : List Ask) (k : Kept) (h : Held) → Same k h → Same (kept-after k qs) (held-after contract h (events qs))
 unfolding events kept-after held-after
@@ -159,8 +164,8 @@ module _ (c : Config) (b j : List ℕ) (e : start-number c (length b) ≡ 0) (qs
       ap (λ (r : Reply). r .refusal) (agrees .answers-next (record { request = request q; lent = t })) ∙
       ap (λ (l : Listed). answer-to c (length j) l (request q) t) listed-is
 
-  sitting : Agrees c b j qs
-  sitting =
+  stored : Agrees c b j qs
+  stored =
       record {
         answered =
             numbers-are qs first (opening contract (table c) j) starts ∙ ap refusals (agrees .answered) ∙
@@ -174,5 +179,5 @@ module _ (c : Config) (b j : List ℕ) (e : start-number c (length b) ≡ 0) (qs
         safe = safe c (standing listed) right legal;
       }
 
-pub sittings : Sittings
-sittings c b j e qs = sitting c b j e qs
+pub stored-sessions : StoredSessions
+stored-sessions c b j e qs = stored c b j e qs

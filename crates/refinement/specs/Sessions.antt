@@ -1,5 +1,5 @@
--- A whole sitting on a session's bytes: from an accepted start, any list of moves, turns and goings on the bytes and the journal that the caller keeps is answered as
--- by the reference session, and all that demand 3 says holds of what the bytes then hold. `Sittings` is the statement; proofs/Sitting.antt proves it of the contracts
+-- Sessions kept as bytes refine sessions on records (document 02, No. 10: a whole sitting): from an accepted start, any list of moves, turns and goings on the bytes and the journal that the caller keeps is answered as
+-- by the reference session, and all that demand 3 says holds of what the bytes then hold. `StoredSessions` is the statement; proofs/Sessions.antt proves it of the contracts
 -- of crate stored, which the C functions have too.
 -- Assumes nothing.
 use Prim.Native.Nat.{ℕ, _*_, _≤_}
@@ -65,7 +65,7 @@ unfoldable pub refusals : List Reply → List ℕ
 refusals [] = []
 refusals (r ∷ rs) = r .refusal ∷ refusals rs
 
--- a sitting that a start of table c began on the bytes b, with a journal whose bytes were j, after the calls qs
+-- a session that a start of table c began on the bytes b, with a journal whose bytes were j, after the calls qs
 module _ (c : Config) (b j : List ℕ) (qs : List Ask) where
   abbrev pub first : Kept
   first = record { session = start-bytes c b; journal = j }
@@ -93,5 +93,5 @@ module _ (c : Config) (b j : List ℕ) (qs : List Ask) where
     -- by the history of the standing moves the laws hold
     pub safe : Safe c (standing listed)
 
-abbrev pub Sittings : Type 0
-Sittings = (c : Config) (b j : List ℕ) → start-number c (length b) ≡ 0 → (qs : List Ask) → Agrees c b j qs
+abbrev pub StoredSessions : Type 0
+StoredSessions = (c : Config) (b j : List ℕ) → start-number c (length b) ≡ 0 → (qs : List Ask) → Agrees c b j qs

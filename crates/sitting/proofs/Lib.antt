@@ -1,2 +1,0 @@
--- A sitting on bytes goes as the session on records does.
-pub mod Sitting

@@ -1,1 +1,0 @@
-// Document 02, No. 10: a whole sitting on a session's bytes, over the contracts of crate stored: theory only.
