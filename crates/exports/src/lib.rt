@@ -12,7 +12,7 @@ ghost use Rattle.exports.specs.Class.{class-number, class-answered, clas
 
 mod neighbours;
 mod replay;
-mod sitting;
+mod sessions;
 mod words;
 
 use crate::neighbours::independent;

@@ -7,6 +7,7 @@ mod asked;
 use asked::Session;
 use independent::course::{run, without_words, Reader};
 use independent::lines::Reader as LineReader;
+use independent::machine::Config;
 use independent::picture;
 use independent::program::Program;
 use independent::random::Generator;
@@ -205,16 +206,21 @@ fn most_moves() {
     assert_eq!(session.ask("chart"), chart);
 }
 
+/// A random start with scripts: its table, and the lines that begin it.
+fn scripted(generator: &mut Generator) -> (Config, Vec<u8>) {
+    let config = generator.config().with_stealing(generator.between(0, 1));
+    let scripts = generator.scripts(config);
+    let mut lines = vec![spelling::start(config)];
+    lines.extend(spelling::scripts(config, &scripts));
+    (config, spelling::input(&lines))
+}
+
 /// `turns p q ..` answers as `turn p`, `show`, `turn q`, `show`, .., but for the words.
 #[test]
 fn turns_are_turns_and_pictures() {
     for seed in 0..150 {
         let mut generator = Generator::new(seed);
-        let config = generator.config().with_stealing(generator.between(0, 1));
-        let scripts = generator.scripts(config);
-        let mut lines = vec![spelling::start(config)];
-        lines.extend(spelling::scripts(config, &scripts));
-        let begun = spelling::input(&lines);
+        let (config, begun) = scripted(&mut generator);
         let (mut whole, mut single) = (Reader::default(), Reader::default());
         assert_eq!(whole.feed(&begun), single.feed(&begun));
         for count in [1, 2, 1, 30, 100, 7] {
@@ -346,11 +352,7 @@ fn goings() {
 fn shown_by_standing_moves() {
     for seed in 0..40 {
         let mut generator = Generator::new(seed);
-        let config = generator.config().with_stealing(generator.between(0, 1));
-        let scripts = generator.scripts(config);
-        let mut lines = vec![spelling::start(config)];
-        lines.extend(spelling::scripts(config, &scripts));
-        let begun = spelling::input(&lines);
+        let (config, begun) = scripted(&mut generator);
         let turns = generator.turns(config, 60);
         let looks = |reader: &mut Reader| reader.feed(b"view\nchart\nshow\n");
         let (mut going, mut shown) = (Reader::default(), Vec::new());

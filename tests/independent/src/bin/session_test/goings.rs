@@ -1,7 +1,7 @@
 //! The script's part on goings: every step and those past the kept moves, 10, 15, 9, 16, what is kept and
 //! what is dropped, edited journals at steps inside a session, and the end of 4,000 moves.
 
-use crate::commands::{APPLIED, BORN, KEPT};
+use crate::commands::{APPLIED, KEPT};
 use crate::script::{LENGTHS, MOST};
 use crate::writer::Writer;
 use independent::journal::JOURNAL;
@@ -43,10 +43,7 @@ fn order(w: &mut Writer) {
     for from in 0..=4 {
         for only in [true, false] {
             let there = |cause: usize| cause == from || !only && cause > from;
-            w.s.lend(if there(0) { JOURNAL - 1 } else { JOURNAL });
-            if there(1) {
-                w.s.change(BORN, 0);
-            }
+            w.lend_or_break(there(0), there(1));
             if there(3) {
                 w.s.write(16, 7);
             }

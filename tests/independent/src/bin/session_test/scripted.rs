@@ -283,10 +283,7 @@ fn order_at_classes(w: &mut Writer) {
     for from in 0..=5 {
         for only in [true, false] {
             let there = |cause: usize| cause == from || !only && cause > from;
-            w.s.lend(if there(0) { JOURNAL - 1 } else { JOURNAL });
-            if there(1) {
-                w.s.change(BORN, 0);
-            }
+            w.lend_or_break(there(0), there(1));
             if there(3) {
                 w.s.write(4, 7);
             }

@@ -1,7 +1,8 @@
 //! Writes the script's lines on scripted threads.
 
-use crate::commands::{PICTURES, SCRIPTS, TURNS};
+use crate::commands::{BORN, PICTURES, SCRIPTS, TURNS};
 use crate::script::{table, Script};
+use independent::journal::JOURNAL;
 use independent::machine::Config;
 use independent::picture;
 use independent::script::{script, Call};
@@ -40,6 +41,14 @@ impl Writer<'_> {
 
     pub fn say(&mut self, line: &str) {
         self.s.say(line);
+    }
+
+    /// The first two causes of a call, each where it is wanted: a journal one byte short, a wrong B.
+    pub fn lend_or_break(&mut self, short: bool, broken: bool) {
+        self.s.lend(if short { JOURNAL - 1 } else { JOURNAL });
+        if broken {
+            self.s.change(BORN, 0);
+        }
     }
 
     pub fn all(&mut self, lines: &[&str]) {
