@@ -4,6 +4,7 @@ use Prim.Native.Nat.{ℕ, zero, suc}
 use mathlib.Core.Bool.{Bool, true, not}
 use mathlib.Core.List.{List}
 use mathlib.Core.Path.{_≡_, refl, sym, ap, _∙_}
+use native.Mathlib.Nat.{le-refl}
 use native.Mathlib.Omega.{arith}
 use lib.ListN.{length, replicate}
 use Rattle.session.specs.declared.Tested.{Tested}
@@ -16,11 +17,11 @@ use Rattle.reference.specs.Cause.{accepted}
 use Rattle.reference.specs.Session.{moves, replays}
 use Rattle.reference.proofs.Tests.{both-left}
 use Rattle.session.specs.Contract.{config-of, lent-refusal, standing, matches, test-refusal, progress-in, tested}
-use Rattle.session.specs.model.Replay.{counted-in}
+use Rattle.session.specs.model.Replay.{counted-to, counted-in, farther}
 use Rattle.state.proofs.Branch.{if-some}
 use Rattle.session.proofs.Answers.{or-first, lent-passed, test-passed}
 use Rattle.session.proofs.Counted.{calls-of, counted-is}
-use Rattle.session.proofs.Found.{config-right, applied-most, kept-range}
+use Rattle.session.proofs.Found.{config-right, applied-most, kept-range, farther-standing}
 use Rattle.session.proofs.Standing.{accepted-within}
 
 module _ (r : Session) (j : List ℕ) where
@@ -34,10 +35,12 @@ module _ (r : Session) (j : List ℕ) where
   test-lent n e h calls = (or-first n (lent-refusal r (length j)) _ e h, sym (if-some (lent-refusal r (length j)) _ calls (λ z. h (e ∙ z))))
 
   -- 16, or none
-  pub test-by : lent-refusal r (length j) ≡ 0 → (b : Bool) → b ≡ matches r j → (calls after : List ℕ) → after ≡ counted-in r j calls →
+  pub test-by : lent-refusal r (length j) ≡ 0 → (b : Bool) → b ≡ matches r j → (calls after : List ℕ) → after ≡ counted-to r (farther r (r .state .applied)) j calls →
       (refuse (not b) 16 0 ≡ test-refusal r j) × (after ≡ counts calls)
   unfolding test-refusal
-  test-by free b e calls after are = (rw (free, ← e), are ∙ rw free)
+  test-by free b e calls after are =
+      let n : ℕ = r .state .applied in
+      (rw (free, ← e), are ∙ ap (λ (k : ℕ). counted-to r k j calls) (sym (farther-standing r n (le-refl n))) ∙ sym (rw free))
 
   -- what is answered: the number, and each thread's calls where there is none
   pub tested-number : (t : Tested) → t ≡ tested r j → t .refusal ≡ test-refusal r j

@@ -1,13 +1,10 @@
 -- `session::test` meets its contract.
 -- Assumes nothing.
-use Prim.Native.Nat.{ℕ}
 use mathlib.Core.Bool.{true, false}
-use mathlib.Core.Path.{sym, ap, _∙_}
-use native.Mathlib.Nat.{le-refl}
+use mathlib.Core.Path.{sym, _∙_}
 use borrow.Author.Needs.{needs}
-use Rattle.session.specs.model.Replay.{counted-to}
 use Rattle.session.proofs.Answers.{lent-passed}
-use Rattle.session.proofs.Found.{kept-range, farther-standing}
+use Rattle.session.proofs.Found.{kept-range}
 use Rattle.session.proofs.Testing.{test-lent, test-by}
 use Rattle.session.proofs.test.Statement.{statement}
 use Rattle.session.proofs.test.Tie as tie
@@ -27,16 +24,14 @@ returns-2 c =
     let found = c .before .before .before .replayed in
     let a = c .before .before .before .before .before .before .before .before .before .before .before .args in
     test-by (a .session) (a .journal .now) (sym (c .before .before .before .before .before .before .before .before .lent .ensures) ∙ c .before .before .before .before .before .before .before .if1 .left) true (sym (c .if2 .taken) ∙ found .ensures .0 .agrees) (a .calls .now) _
-    (found .ensures .1 ∙
-    ap (λ (n : ℕ). counted-to (a .session) n (a .journal .now) (a .calls .now)) (sym (farther-standing (a .session) _ (le-refl (a .session .state .applied)))))
+    (found .ensures .1)
 
 returns-3 : tie.Need-returns-3
 returns-3 c =
     let found = c .before .before .before .replayed in
     let a = c .before .before .before .before .before .before .before .before .before .before .before .args in
     test-by (a .session) (a .journal .now) (sym (c .before .before .before .before .before .before .before .before .lent .ensures) ∙ c .before .before .before .before .before .before .before .if1 .left) false (sym (c .if2 .left) ∙ found .ensures .0 .agrees) (a .calls .now) _
-    (found .ensures .1 ∙
-    ap (λ (n : ℕ). counted-to (a .session) n (a .journal .now) (a .calls .now)) (sym (farther-standing (a .session) _ (le-refl (a .session .state .applied)))))
+    (found .ensures .1)
 
 pub test-spec : {M : Type 1} → statement M
 test-spec =
