@@ -6,7 +6,7 @@ use mathlib.Core.List.{List, []}
 use mathlib.Core.Path.{_≡_, refl, sym, ap, _∙_, subst}
 use native.Mathlib.Omega.{arith}
 use lib.Dec.{eqb}
-use lib.ListN.{length, take, drop}
+use lib.ListN.{length, take}
 use borrow.Author.Tests.{le-leb, lt-leb, eq-eqb, eqb-true, ne-eqb}
 use Rattle.session.specs.declared.replay.Found.{Found}
 use Rattle.state.specs.declared.Session.{Session}
@@ -19,7 +19,7 @@ use Rattle.state.specs.model.Access.{start-record}
 use Rattle.step.specs.declared.Run.{Run}
 use Rattle.step.specs.model.Moves.{run-from, run-of, counted-from, counted-of}
 use Rattle.step.proofs.Split.{Alike, both-made, front-refused}
-use Rattle.reference.specs.Lists.{choose, in-range}
+use Rattle.reference.specs.Lists.{in-range}
 use Rattle.reference.specs.State.{same-state}
 use Rattle.reference.specs.Start.{Config, config-cause, start}
 use Rattle.reference.specs.Step.{Move, run}
@@ -34,7 +34,7 @@ use Rattle.shown.proofs.Unique.{session-held}
 use Rattle.session.specs.Contract.{shown, config-of, lent-refusal, matches}
 use Rattle.session.specs.model.Replay.{between, first-record, counted-to, farther, Reaches, Compares, Replays}
 use Rattle.session.proofs.Answers.{lent-passed}
-use Rattle.session.proofs.Replayed.{Made, Going, made-all}
+use Rattle.session.proofs.Replayed.{Made, made-all}
 use Rattle.session.proofs.Standing.{accepted-within}
 
 -- ---- a record that keeps the rules

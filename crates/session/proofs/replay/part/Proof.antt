@@ -1,6 +1,5 @@
 -- `session::replay::part` meets its contract.
 -- Assumes nothing.
-use native.Mathlib.Omega.{arith}
 use borrow.Author.Needs.{needs}
 use Rattle.session.proofs.Found.{part-none}
 use Rattle.session.proofs.replay.part.Statement.{statement}
