@@ -1,7 +1,7 @@
 // The answer about turns ahead.
 
 // InTurn and Overtakable: the turns of a waiting thread, without and with the mark 'may be overtaken'. Refused: the number.
-#[derive(Drop)]
+#[derive(Clone, Copy)]
 pub enum Ahead {
     InTurn(u8),
     Overtakable(u8),

@@ -1,1 +1,2 @@
 // How the record of a reference state changes when a thread is transferred: theory only.
+#![tactic(auto)]

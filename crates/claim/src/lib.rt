@@ -1,1 +1,2 @@
 // What is claimed of the entry points together, over their contracts: theory only.
+#![tactic(auto)]

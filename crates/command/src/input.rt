@@ -7,14 +7,14 @@ use crate::line::Line;
 use libc::STDIN_FILENO;
 
 // What is left of the last read: the bytes of the chunk from `at` up to `end`, which is how many the read brought.
-#[derive(Drop)]
+#[derive(Clone, Copy)]
 pub struct Input {
     pub at: usize,
     pub end: usize,
 }
 
 // ended: the input ended instead of a line feed; counts: a line feed ended the line, or it has a byte.
-#[derive(Drop)]
+#[derive(Clone, Copy)]
 pub struct NextLine {
     pub input: Input,
     pub line: Line,

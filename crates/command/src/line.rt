@@ -6,7 +6,7 @@ use crate::Command;
 use crate::reading::command_of;
 
 // How many bytes the buffer holds of it; long: there were more, and they are dropped.
-#[derive(Drop)]
+#[derive(Clone, Copy)]
 pub struct Line {
     pub len: usize,
     pub long: bool,

@@ -5,21 +5,21 @@ ghost use Rattle.command.specs.Model.Reading.{is_digit, fit, number_of, number_a
 use crate::Command;
 
 // A space and a number: the number, and how many bytes the two take; a width of 0 says that they are not there.
-#[derive(Drop)]
+#[derive(Clone, Copy)]
 pub struct Number {
     pub value: u16,
     pub width: u8,
 }
 
 // The same of a number that is a byte.
-#[derive(Drop)]
+#[derive(Clone, Copy)]
 pub struct Field {
     pub value: u8,
     pub width: u8,
 }
 
 // Three fields in a row; a width of 0 says that they are not there.
-#[derive(Drop)]
+#[derive(Clone, Copy)]
 pub struct Three {
     pub first: u8,
     pub second: u8,

@@ -9,7 +9,7 @@ use crate::reading::{command_of, field_at, is_word, starts};
 
 // The stepper's lines, and script k a o .., turn p, turns p .., view, chart, mark, help. Plain(Unknown) is a line that is no command.
 // Script(k, n), Turns(n), MarkOwn(n): their n numbers stand at the front of the lent buffer; Mark(n, m): n, and m behind them.
-#[derive(Drop)]
+#[derive(Clone, Copy)]
 pub enum Request {
     Plain(Command),
     Script(u8, u16),
@@ -23,7 +23,7 @@ pub enum Request {
 }
 
 // Fields in a row: how many, and whether they are all there is up to the line's end.
-#[derive(Drop)]
+#[derive(Clone, Copy)]
 pub struct Fields {
     pub count: u16,
     pub whole: bool,

@@ -26,7 +26,7 @@ fn turn_lines(out: &mut [u8], at: usize, size: usize, answers: &[u8], pictures: 
 }
 
 // What a class leaves: the session's record, and how many bytes of the output count.
-#[derive(Drop)]
+#[derive(Clone, Copy)]
 pub struct Printed {
     pub session: Session,
     pub end: usize,

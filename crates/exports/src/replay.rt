@@ -9,7 +9,7 @@ use state::refusal::Refusal;
 use step::moves::run;
 
 // The number of the first refused move and its place, counted from 1, or 0 and 0; and the state before it, or after all.
-#[derive(Drop)]
+#[derive(Clone, Copy)]
 pub(crate) struct Replayed {
     pub refusal: u8,
     pub place: u32,
@@ -48,7 +48,7 @@ pub(crate) fn replay(p: u8, t: u8, m: u8, b: u8, stealing: u8, moves: &[u8]) -> 
 }
 
 // The first refusal of a table and moves: the table's number, or that of the first refused move with its place; 0 and 0 where there is none.
-#[derive(Drop)]
+#[derive(Clone, Copy)]
 pub(crate) struct Tried {
     pub refusal: u8,
     pub place: u32,

@@ -1,4 +1,5 @@
 // Marks for a handed-in picture: each record that agrees with the machine's earns its points.
+#![tactic(auto)]
 ghost use Rattle.std.specs.Prelude.{◌≡◌, not, eqb, length};
 ghost use Rattle.reference.specs.Lists.{if_zero};
 ghost use Rattle.reference.specs.Refusal.{bad_length, refuse};
@@ -11,7 +12,7 @@ use state::layout::{Width, picture_bytes};
 use state::refusal::Refusal;
 
 // refusal: 0, or the number with no mark. mark: in hundredths.
-#[derive(Drop)]
+#[derive(Clone, Copy)]
 pub struct Marked {
     pub refusal: u8,
     pub mark: u16,

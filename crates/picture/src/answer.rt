@@ -2,13 +2,13 @@
 use state::State;
 
 // refusal: 0, or the number with an all-zero state.
-#[derive(Drop)]
+#[derive(Clone, Copy)]
 pub struct Read {
     pub refusal: u8,
     pub state: State,
 }
 
-#[derive(Drop)]
+#[derive(Clone, Copy)]
 pub enum Ahead {
     Turns(u8),
     NotWaiting,

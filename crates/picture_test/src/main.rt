@@ -1,4 +1,5 @@
 // Pictures from standard input, one a line in hexadecimal digits: what writing, turns ahead and reading get of each.
+#![tactic(auto)]
 mod line;
 mod print;
 mod reading;

@@ -12,7 +12,7 @@ use state::layout::Width;
 use state::queues::{get, queued_in};
 
 // The threads met so far, bit k for thread k; whether the walk ended at a thread met already, and whether at one not placed in its queue.
-#[derive(Drop)]
+#[derive(Clone, Copy)]
 pub(crate) struct Walked {
     pub met: u64,
     pub twice: bool,

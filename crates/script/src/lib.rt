@@ -1,4 +1,6 @@
 // Scripts of threads as bytes: whether a buffer holds them, the call that a thread makes next, and setting a thread's script.
+#![tactic(auto)]
+
 ghost use Rattle.std.specs.Prelude.{◌≡◌, ◌++◌, ◌+◌, ◌-◌, ◌*◌, ◌≤◌, leb, length, get_or, take, drop};
 ghost use Rattle.reference.specs.Lists.{in_range, each};
 ghost use Rattle.reference.specs.Script.{script_byte, script_ok, scripts_ok, next_call};
@@ -11,7 +13,7 @@ use state::refusal::Refusal;
 const EXIT: u8 = 5;
 
 // A move as numbers.
-#[derive(Drop)]
+#[derive(Clone, Copy)]
 pub struct Move {
     pub processor: u8,
     pub action: u8,

@@ -1,4 +1,5 @@
 // Sessions: start, move, going to a step, what the last move touched, the journal's front and its test.
+#![tactic(auto)]
 pub mod journal;
 mod replay;
 mod same;
@@ -21,14 +22,14 @@ use state::{Session, State};
 use touch::Touch;
 
 // What a start, a going or a class answers: the number that refuses it, or 0, and the session's record.
-#[derive(Drop)]
+#[derive(Clone, Copy)]
 pub struct Answer {
     pub refusal: u8,
     pub session: Session,
 }
 
 // What a move or a turn answers: the same, and the words that it touched.
-#[derive(Drop)]
+#[derive(Clone, Copy)]
 pub struct MoveAnswer {
     pub refusal: u8,
     pub session: Session,
@@ -36,7 +37,7 @@ pub struct MoveAnswer {
 }
 
 // What the test of a journal finds: 10, 15 or 16, or 0; and how many calls each thread has made by it, 0 where it is refused.
-#[derive(Drop)]
+#[derive(Clone, Copy)]
 pub struct Tested {
     pub refusal: u8,
     pub calls: [u16; 33],

@@ -27,7 +27,7 @@ fn part(state: State, journal: &[u8], a: usize, b: usize, calls: &mut [u16]) -> 
 }
 
 // Whether all kept moves are accepted, and then the states after the first a and the first b of them.
-#[derive(Drop)]
+#[derive(Clone, Copy)]
 pub(crate) struct Stages {
     pub whole: bool,
     pub low: State,
@@ -62,7 +62,7 @@ fn reached(session: Session, journal: &[u8], a: usize, b: usize, calls: &mut [u1
 }
 
 // Whether the kept moves are accepted and the standing ones give the record, and the state after the first k.
-#[derive(Drop)]
+#[derive(Clone, Copy)]
 pub(crate) struct Found {
     pub agrees: bool,
     pub state: State,

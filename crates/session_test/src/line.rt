@@ -1,5 +1,5 @@
 // A line of the script: a word, known by its first letter, and up to five numbers.
-#[derive(Drop)]
+#[derive(Clone, Copy)]
 pub struct Line {
     pub word: u8,
     pub at: usize,

@@ -4,7 +4,7 @@ use crate::line::{Line, low};
 use state::Session;
 
 // How many bytes of the journal and of the scripts are lent.
-#[derive(Drop)]
+#[derive(Clone, Copy)]
 pub struct Lent {
     pub journal: isize,
     pub scripts: isize,

@@ -1,4 +1,5 @@
 // The session that a program holds, and its answers to the lines of the stepper, put at the front of the output.
+#![tactic(auto)]
 ghost use Rattle.std.specs.Prelude.{◌≡◌, false, List, ℕ};
 ghost use Rattle.command.specs.Printing.{buffer_of, add};
 ghost use Rattle.reference.specs.Step.{move_of};
@@ -12,14 +13,14 @@ use state::layout::{Width, picture_bytes};
 use state::{Session, State};
 
 // begun: a start has been accepted; session: its record.
-#[derive(Drop)]
+#[derive(Clone, Copy)]
 pub struct Shell {
     pub begun: bool,
     pub session: Session,
 }
 
 // What a line leaves; len: the bytes of the output that are its response.
-#[derive(Drop)]
+#[derive(Clone, Copy)]
 pub struct Reply {
     pub shell: Shell,
     pub len: usize,
@@ -27,7 +28,7 @@ pub struct Reply {
 
 // What a program holds between lines, and of the last line: written: the bytes of the output that were handed to write; ok: they were written; ended: the
 // input ended with it.
-#[derive(Drop)]
+#[derive(Clone, Copy)]
 pub struct Progress {
     pub shell: Shell,
     pub input: Input,

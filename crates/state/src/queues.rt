@@ -47,7 +47,7 @@ pub fn put_thread(threads: &mut [u8], k: u8, t: Thread)
 }
 
 // What taking from a queue finds: a thread with the remaining chain's first, or nothing.
-#[derive(Drop)]
+#[derive(Clone, Copy)]
 pub enum Taken {
     Thread(u8, u8),
     Nothing,

@@ -1,5 +1,5 @@
 // The numbers by which a request is refused; 0 is no refusal.
-#[derive(Drop)]
+#[derive(Clone, Copy)]
 pub struct Refusal {}
 
 impl Refusal {

@@ -1,4 +1,6 @@
 // The machine's lines and calls as small functions, the causes for refusing a move, and one function for a whole move.
+#![tactic(auto)]
+
 pub mod call;
 pub mod calls;
 pub mod cause;
@@ -16,7 +18,7 @@ use state::{Mutex, Processor, State};
 
 // What a processor sees: its number, its registers, its mutex, what taking from that mutex's queue and from the ready queue that it works on finds,
 // that ready queue's index, and how many ready queues there are.
-#[derive(Drop)]
+#[derive(Clone, Copy)]
 pub struct View {
     pub number: u8,
     pub proc: Processor,
@@ -29,7 +31,7 @@ pub struct View {
 
 // How a move changes the queues. Take(q, k, rest): the front thread k of queue q goes to the transit register, and rest is the first of what remains.
 // Join(q, k): thread k joins queue q. Mark(k, status, holder): thread k is in no queue, with that status and holder.
-#[derive(Drop)]
+#[derive(Clone, Copy)]
 pub enum Transfer {
     Stay,
     Take(u8, u8, u8),
@@ -38,7 +40,7 @@ pub enum Transfer {
 }
 
 // What a line or a call makes of a view.
-#[derive(Drop)]
+#[derive(Clone, Copy)]
 pub struct Effect {
     pub proc: Processor,
     pub mutex: Mutex,
@@ -46,7 +48,7 @@ pub struct Effect {
 }
 
 // What comes of a line or a call: whether it would break a rule, whether it may change its mutex, and its effect.
-#[derive(Drop)]
+#[derive(Clone, Copy)]
 pub struct Outcome {
     pub broken: bool,
     pub writes: bool,
@@ -55,7 +57,7 @@ pub struct Outcome {
 
 // A move's decision: why it is refused, or 0; whether it may change its mutex; and its effect, which leaves the view where the move is refused.
 // 21 is the answer to an exit that is refused only if its thread owns a mutex, and comes with its effect.
-#[derive(Drop)]
+#[derive(Clone, Copy)]
 pub struct Decision {
     pub refusal: u8,
     pub writes: bool,
@@ -63,7 +65,7 @@ pub struct Decision {
 }
 
 // The statuses of a thread that is in no queue.
-#[derive(Drop)]
+#[derive(Clone, Copy)]
 pub struct Status {}
 
 impl Status {
@@ -75,7 +77,7 @@ impl Status {
 }
 
 // What a move's refusal needs of a record: its processors, threads, mutexes, and the moves applied.
-#[derive(Drop)]
+#[derive(Clone, Copy)]
 pub struct Sizes {
     pub p: u8,
     pub t: u8,
@@ -84,7 +86,7 @@ pub struct Sizes {
 }
 
 // Where a list of moves leads: why its first refused move is refused, or 0, how many moves were made, and the state after them.
-#[derive(Drop)]
+#[derive(Clone, Copy)]
 pub struct Run {
     pub refusal: u8,
     pub made: usize,
@@ -92,7 +94,7 @@ pub struct Run {
 }
 
 // A move's answer: 0, or why it is refused, and the state after it.
-#[derive(Drop)]
+#[derive(Clone, Copy)]
 pub struct Moved {
     pub refusal: u8,
     pub state: State,

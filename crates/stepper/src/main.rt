@@ -1,4 +1,5 @@
 // Reads lines from standard input to its end and responds to each with a line.
+#![tactic(auto)]
 ghost use Rattle.std.specs.Prelude.{◌≤◌, length, take};
 ghost use Rattle.command.specs.Transcript.{Turn, Run};
 ghost use Rattle.shell.specs.Answers.{context_of, initial};

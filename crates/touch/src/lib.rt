@@ -1,4 +1,5 @@
 // One move that also says which shared word it read and which it wrote.
+#![tactic(auto)]
 mod words;
 
 ghost use Rattle.std.specs.Prelude.{◌≡◌, eqb};
@@ -15,7 +16,7 @@ use state::{Mutex, Processor, State};
 use step::moves::{index_of, moved};
 
 // A shared word: the count, the token or the queue of a mutex, a ready queue (the single one is 1), the birth of a thread, or none. The owner is no word.
-#[derive(Drop)]
+#[derive(Clone, Copy)]
 pub enum Word {
     None,
     Count(u8),
@@ -26,14 +27,14 @@ pub enum Word {
 }
 
 // The word that a move read and the one that it wrote.
-#[derive(Drop)]
+#[derive(Clone, Copy)]
 pub struct Touch {
     pub reads: Word,
     pub writes: Word,
 }
 
 // A move's answer: 0, or why it is refused; the state after it; and what it touched.
-#[derive(Drop)]
+#[derive(Clone, Copy)]
 pub struct Made {
     pub refusal: u8,
     pub state: State,
@@ -114,7 +115,7 @@ pub fn apart(t: Touch, u: Touch) -> bool
 
 // What a processor sees of the shared words: its number, its registers, its mutex, whether a thread is in that mutex's queue and in the ready queue that it works
 // on, and that ready queue's index.
-#[derive(Drop)]
+#[derive(Clone, Copy)]
 pub(crate) struct Sight {
     pub number: u8,
     pub proc: Processor,

@@ -1,4 +1,5 @@
 // Scripted threads: a scripted start, a turn, and a class of turns.
+#![tactic(auto)]
 mod made;
 mod sequence;
 

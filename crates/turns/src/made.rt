@@ -9,7 +9,7 @@ use step::calls::note_move;
 use step::moves::moved;
 
 // Why the turn's move is refused, or 0; the move's action and operand; the state and the calls after it.
-#[derive(Drop)]
+#[derive(Clone, Copy)]
 pub(crate) struct Made {
     pub refusal: u8,
     pub action: u8,

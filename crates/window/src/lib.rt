@@ -1,4 +1,5 @@
 // The course window's entry: the caller keeps one session record for the whole sitting and lends it to each call.
+#![tactic(auto)]
 ghost use Rattle.std.specs.Prelude.{◌≡◌};
 ghost use Rattle.reference.specs.Step.{move_of};
 ghost use Rattle.session.specs.Contract.{moved, journal_after, went};
@@ -8,7 +9,7 @@ use state::Session;
 use touch::Touch;
 
 // What a move answers besides the record: the number that refuses it, or 0, and the words that it touched.
-#[derive(Drop)]
+#[derive(Clone, Copy)]
 pub struct Made {
     pub refusal: u8,
     pub touch: Touch,

@@ -1,5 +1,6 @@
 // Lends one record to the calls of a script: prints what each answers, and at the end the session's picture, B and the number kept.
 // A call is three characters and a line feed: a move's digits, or g and two digits of the step to go to.
+#![tactic(auto)]
 mod lend;
 
 use lend::{lend_goto, lend_move};

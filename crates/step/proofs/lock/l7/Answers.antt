@@ -1,0 +1,22 @@
+-- `step::lock::l7` meets its contract.
+-- Assumes nothing.
+use Rattle.step.specs.Model.Moves.{at_L7}
+use Rattle.step.proofs.lock.l7.Goals as goal
+
+pub returns-in-Nothing : goal.returns-in-Nothing
+unfolding at_L7
+returns-in-Nothing c =
+    rw (
+      c.in-Nothing.is,
+      c.stays.ensures,
+      c.away.ensures,
+    )
+
+pub returns-in-Thread : goal.returns-in-Thread
+unfolding at_L7
+returns-in-Thread c =
+    rw (
+      c.in-Thread.is,
+      c.stays-in-Thread.ensures,
+      c.observing.ensures,
+    )

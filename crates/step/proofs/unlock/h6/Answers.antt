@@ -1,0 +1,22 @@
+-- `step::unlock::h6` meets its contract.
+-- Assumes nothing.
+use Rattle.step.specs.Model.Moves.{at_H6}
+use Rattle.step.proofs.unlock.h6.Goals as goal
+
+pub returns-in-Nothing : goal.returns-in-Nothing
+unfolding at_H6
+returns-in-Nothing c =
+    rw (
+      c.in-Nothing.is,
+      c.stays.ensures,
+      c.away.ensures,
+    )
+
+pub returns-in-Thread : goal.returns-in-Thread
+unfolding at_H6
+returns-in-Thread c =
+    rw (
+      c.in-Thread.is,
+      c.stays-in-Thread.ensures,
+      c.on_mutex.ensures,
+    )
