@@ -132,11 +132,13 @@ class Steps:
 
 def path(text, turned):
     """c.before.if1.true as c.if-x-lt3.true, also from a name that is let be c or a step before it."""
-    roots = {"c"}
+    roots, args = {"c"}, set()
     kinds = {}
 
     def one(m):
         segs = m[0].split(".")
+        if segs[0] in args and len(segs) > 1:
+            return ".".join([segs[0], turned.args.get(canon(segs[1]), segs[1])] + segs[2:])
         if segs[0] not in roots:
             return m[0]
         return ".".join([segs[0]] + turned.turn(segs[1:]))
@@ -147,6 +149,8 @@ def path(text, turned):
             segs = m[2].split(".")
             if segs[0] in roots and all(s == "before" for s in segs[1:]):
                 roots.add(m[1])
+            elif segs[0] in roots and segs[-1] == "args" and all(s == "before" for s in segs[1:-1]):
+                args.add(m[1])
         out.append(re.sub(r"(?<![\w.'-])[^\W\d][\w'₀-₉-]*(?:\.[^\s(){}.;,@\"«»]+)+", one, line))
     return "\n".join(out)
 
@@ -190,12 +194,16 @@ def over(body, params, loop_vars, changed):
     now = [v for v, c in zip(loop_vars, changed) if c]
     if len(params) != len(loop_vars) + len(now):
         return None
-    into = {}
+    into, l = {}, record_name(body)
     for p, v, c in zip(params, loop_vars, changed):
-        into[p] = f"l.initial.{v}" if c else f"l.{v}"
+        into[p] = f"{l}.initial.{v}" if c else f"{l}.{v}"
     for p, v in zip(params[len(loop_vars):], now):
-        into[p] = f"l.{v}"
+        into[p] = f"{l}.{v}"
     return re.sub(r"(?<![\w.'-])[^\W\d][\w'₀-₉-]*", lambda m: into.get(m[0], m[0]), body)
+
+
+def record_name(body):
+    return "now" if re.search(r"(?<![\w.'-])l(?![\w'.-])", body) else "l"
 
 
 def convert(file):
@@ -239,7 +247,8 @@ def convert(file):
                 print(f"left: {rel}: {m[1]}: parameters {d[1].split()} of {loop[1]} {loop[2]}")
                 b = d[2]
             n = f"{m[2]}-{loop[0]}"
-            invariants.append("\n".join(comments(piece) + [f"abbrev pub {n} : goal.{n}"] + [l for l in lines[1:] if l.startswith("unfolding")] + [f"{n} l = {b}" if "\n" not in d[0].split("=", 1)[1][:2] else f"{n} l =\n    {b}"]))
+            l = record_name(d[2])
+            invariants.append("\n".join(comments(piece) + [f"abbrev pub {n} : goal.{n}"] + [l for l in lines[1:] if l.startswith("unfolding")] + [f"{n} {l} = {b}" if "\n" not in d[0].split("=", 1)[1][:2] else f"{n} {l} =\n    {b}"]))
             continue
         m = re.match(r"(?:pub |abbrev )*(" + TOKEN + r") : tie\.Need-(\S+)(.*)$", lines[0])
         if m:
@@ -254,7 +263,7 @@ def convert(file):
                 continue
             rest = []
             for l in lines[1:]:
-                l = re.sub(r"^" + re.escape(m[1]) + r" (\S+)(?: κs)? =", lambda k: f"{new} {k[1]} =", l)
+                l = re.sub(r"^" + re.escape(m[1]) + r" (\S+)(?: κs)?((?: \S+)*) =", lambda k: f"{new} {k[1]}{k[2]} =", l)
                 rest.append(l)
             called[m[1]] = new
             said = path("\n".join(rest), Steps(info, at[new]))

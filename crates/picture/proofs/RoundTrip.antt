@@ -11,7 +11,7 @@ use borrow.Author.Tests.{eqb-true, eq-eqb, le-ltb, not-false}
 use Rattle.state.specs.declared.State.{State}
 use Rattle.state.specs.Record.{zero_thread, zero_processor, zero_mutex, Sized}
 use Rattle.state.specs.Association.{decode}
-use Rattle.state.specs.Rules.{sizes_ok, broken_rule, zero-processor?, zero-mutex?, zero-thread?, within_or, zero_past, state_ok}
+use Rattle.state.specs.Rules.{sizes_ok, broken_rule, zero_processor?, zero_mutex?, zero_thread?, within_or, zero_past, state_ok}
 use Rattle.reference.specs.Lists.{tabulate, in_range}
 use Rattle.reference.specs.Picture.{picture}
 use Rattle.reference.proofs.Tests.{both, both_left, ◌and◌, range_true, true_range, passed}
@@ -96,9 +96,9 @@ module _ (b : List ℕ) where
   fields_past =
       both
       (both
-      (each_all _ 0 9 (λ j x l. past_zero zero-processor? zero_processor refl _ (byte b 0) 9 j (omega arith)))
-      (each_all _ 0 9 (λ j x l. past_zero zero-mutex? zero_mutex refl _ (byte b 2) 9 j (omega arith))))
-      (each_all _ 0 33 (λ j x l. past_zero zero-thread? zero_thread refl _ (byte b 1) 33 j (omega arith)))
+      (each_all _ 0 9 (λ j x l. past_zero zero_processor? zero_processor refl _ (byte b 0) 9 j (omega arith)))
+      (each_all _ 0 9 (λ j x l. past_zero zero_mutex? zero_mutex refl _ (byte b 2) 9 j (omega arith))))
+      (each_all _ 0 33 (λ j x l. past_zero zero_thread? zero_thread refl _ (byte b 1) 33 j (omega arith)))
 
   module _ (w : Bytes b) (e : (read b).refusal ≡ 0) where
     whole : Whole b × (broken_rule (fields b) ≡ 0)

@@ -13,7 +13,7 @@ use borrow.Author.Tests.{eqb-true, eq-eqb, ne_eqb}
 use Rattle.state.specs.declared.Thread.{Thread}
 use Rattle.state.specs.Record.{zero_thread, thread_of, processor_of, mutex_of, first_of}
 use Rattle.state.specs.Association.{encode, decode, queue_at, ready_index, queued_as, queue_shown, mutex_shown, processor_shown, token_shown, life_shown, thread_record, processor_record, mutex_record}
-use Rattle.state.specs.Rules.{placed_in, chain_ok, chains_ok, register_matches, thread_matches, holders_ok, zero-processor?, zero-mutex?, zero-thread?, within_or, zero_past, state_ok}
+use Rattle.state.specs.Rules.{placed_in, chain_ok, chains_ok, register_matches, thread_matches, holders_ok, zero_processor?, zero_mutex?, zero_thread?, within_or, zero_past, state_ok}
 use Rattle.state.specs.Allowed.{Allowed}
 use Rattle.state.proofs.Numbers.{stands, queue-mutex, queue-ready, number_one}
 use Rattle.reference.specs.Lists.{at, choose, in_range, tabulate}
@@ -219,21 +219,21 @@ module _ (s : reference.State) (h : Allowed s) where
   unfolding zero_past encode
   past =
       both
-      (both (all-each (λ p. within_or s.P p (zero-processor? (processor_of (encode s) p))) 0 9 (λ p a b. no_processor p (in_range 1 s.P p) refl))
-      (all-each (λ m. within_or s.M m (zero-mutex? (mutex_of (encode s) m))) 0 9 (λ m a b. no_mutex m (in_range 1 s.M m) refl)))
-      (all-each (λ k. within_or s.T k (zero-thread? (thread_of (encode s) k))) 0 33 (λ k a b. none k (in_range 1 s.T k) refl))
+      (both (all-each (λ p. within_or s.P p (zero_processor? (processor_of (encode s) p))) 0 9 (λ p a b. no_processor p (in_range 1 s.P p) refl))
+      (all-each (λ m. within_or s.M m (zero_mutex? (mutex_of (encode s) m))) 0 9 (λ m a b. no_mutex m (in_range 1 s.M m) refl)))
+      (all-each (λ k. within_or s.T k (zero_thread? (thread_of (encode s) k))) 0 33 (λ k a b. none k (in_range 1 s.T k) refl))
     where
-      no_processor : (p : ℕ) (b : Bool) → in_range 1 s.P p ≡ b → b || zero-processor? (processor_of (encode s) p) ≡ true
+      no_processor : (p : ℕ) (b : Bool) → in_range 1 s.P p ≡ b → b || zero_processor? (processor_of (encode s) p) ≡ true
       no_processor p true e = refl
-      no_processor p false e = ap zero-processor? (read-processor s fits p ∙ ap processor_record (at_out s.processors s.P p nobody h.processors e))
+      no_processor p false e = ap zero_processor? (read-processor s fits p ∙ ap processor_record (at_out s.processors s.P p nobody h.processors e))
 
-      no_mutex : (m : ℕ) (b : Bool) → in_range 1 s.M m ≡ b → b || zero-mutex? (mutex_of (encode s) m) ≡ true
+      no_mutex : (m : ℕ) (b : Bool) → in_range 1 s.M m ≡ b → b || zero_mutex? (mutex_of (encode s) m) ≡ true
       no_mutex m true e = refl
-      no_mutex m false e = ap zero-mutex? (read-mutex s fits m ∙ ap mutex_record (at_out s.mutexes s.M m free_mutex h.mutexes e))
+      no_mutex m false e = ap zero_mutex? (read-mutex s fits m ∙ ap mutex_record (at_out s.mutexes s.M m free_mutex h.mutexes e))
 
-      none : (k : ℕ) (b : Bool) → in_range 1 s.T k ≡ b → b || zero-thread? (thread_of (encode s) k) ≡ true
+      none : (k : ℕ) (b : Bool) → in_range 1 s.T k ≡ b → b || zero_thread? (thread_of (encode s) k) ≡ true
       none k true e = refl
-      none k false e = ap zero-thread? (no_thread k e)
+      none k false e = ap zero_thread? (no_thread k e)
 
   kept : Kept (encode s)
   unfolding chains_ok holders_ok encode

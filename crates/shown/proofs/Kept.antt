@@ -17,7 +17,7 @@ use Rattle.state.specs.declared.State.{State}
 use Rattle.state.specs.Record.{zero_thread, zero_token, zero_processor, zero_mutex, thread_of, processor_of, mutex_of, first_of, Sized}
 use Rattle.state.specs.Association.{queue_shown, queued_as}
 use Rattle.state.proofs.Numbers.{stands}
-use Rattle.state.specs.Rules.{processor_ok, register_ok, mutex_ok, holder_ok, next_ok, thread_ok, is_queue, fields_ok, placed_in, chain_ok, chains_ok, register_matches, thread_matches, holders_ok, broken_rule, zero-token?, zero-processor?, zero-mutex?, zero-thread?, within_or, zero_past, state_ok}
+use Rattle.state.specs.Rules.{processor_ok, register_ok, mutex_ok, holder_ok, next_ok, thread_ok, is_queue, fields_ok, placed_in, chain_ok, chains_ok, register_matches, thread_matches, holders_ok, broken_rule, zero_token?, zero_processor?, zero_mutex?, zero_thread?, within_or, zero_past, state_ok}
 use Rattle.reference.specs.Lists.{choose, in_range, each}
 use Rattle.reference.specs.State.{Row, queues, row, line_of}
 use Rattle.reference.specs.Safe.{In}
@@ -150,18 +150,18 @@ shape r small x e =
     shape_by r small x.status x.holder x.next (both_left (leb x.status 5) (holder_ok r.p r.m r.stealing x) a)
     (both_right (leb x.status 5) (holder_ok r.p r.m r.stealing x) a) (both_right (leb x.status 5 && holder_ok r.p r.m r.stealing x) (next_ok r.t x) e)
 
-is-zero_token : (t : Token) → zero-token? t ≡ true → t ≡ zero_token
+is-zero_token : (t : Token) → zero_token? t ≡ true → t ≡ zero_token
 is-zero_token t e = let h = (eqb-true t.processor 0 and eqb-true t.sequence 0) e in (λ i. record { processor = h.0 i; sequence = h.1 i })
 
-is-zero_thread : (x : Thread) → zero-thread? x ≡ true → x ≡ zero_thread
+is-zero_thread : (x : Thread) → zero_thread? x ≡ true → x ≡ zero_thread
 is-zero_thread x e = let h = (eqb-true x.status 0 and eqb-true x.holder 0 and eqb-true x.next 0) e in (λ i. stands (h.0.0 i) (h.0.1 i) (h.1 i))
 
-is-zero_mutex : (x : Mutex) → zero-mutex? x ≡ true → x ≡ zero_mutex
+is-zero_mutex : (x : Mutex) → zero_mutex? x ≡ true → x ≡ zero_mutex
 is-zero_mutex x e =
     let h = (eqb-true x.count 0 and eqb-true x.owner 0 and is-zero_token x.token) e in
     (λ i. record { count = h.0.0 i; owner = h.0.1 i; token = h.1 i })
 
-is-zero_processor : (x : Processor) → zero-processor? x ≡ true → x ≡ zero_processor
+is-zero_processor : (x : Processor) → zero_processor? x ≡ true → x ≡ zero_processor
 is-zero_processor x e =
     let h = (
     eqb-true x.position 0 and eqb-true x.current 0 and eqb-true x.transit 0 and eqb-true x.mutex 0 and is-zero_token x.observed and
@@ -225,9 +225,9 @@ facts r z h =
     each_all (thread_matches r) 1 r.t
     ) h.holders in
     let c = (
-    beyond r.processors zero_processor 9 r.p zero-processor? z.processors is-zero_processor and
-    beyond r.mutexes zero_mutex 9 r.m zero-mutex? z.mutexes is-zero_mutex and
-    beyond r.chains.threads zero_thread 33 r.t zero-thread? z.threads is-zero_thread
+    beyond r.processors zero_processor 9 r.p zero_processor? z.processors is-zero_processor and
+    beyond r.mutexes zero_mutex 9 r.m zero_mutex? z.mutexes is-zero_mutex and
+    beyond r.chains.threads zero_thread 33 r.t zero_thread? z.threads is-zero_thread
     ) h.past in
     record {
       fields = f;

@@ -126,19 +126,19 @@ broken_rule r = refuse (not (fields_ok r)) bad_field (refuse (not (chains_ok r))
 
 -- ---- 15: a record keeps the rules of its picture, and is zero where the picture does not reach
 
-abbrev pub zero-token? : Token → Bool
-zero-token? t = eqb t.processor 0 && eqb t.sequence 0
+abbrev pub zero_token? : Token → Bool
+zero_token? t = eqb t.processor 0 && eqb t.sequence 0
 
-abbrev pub zero-processor? : Processor → Bool
-zero-processor? x =
-    eqb x.position 0 && eqb x.current 0 && eqb x.transit 0 && eqb x.mutex 0 && zero-token? x.observed && eqb x.sequence 0 && eqb x.answer 0 &&
+abbrev pub zero_processor? : Processor → Bool
+zero_processor? x =
+    eqb x.position 0 && eqb x.current 0 && eqb x.transit 0 && eqb x.mutex 0 && zero_token? x.observed && eqb x.sequence 0 && eqb x.answer 0 &&
     eqb x.probe 0
 
-abbrev pub zero-mutex? : Mutex → Bool
-zero-mutex? x = eqb x.count 0 && eqb x.owner 0 && zero-token? x.token
+abbrev pub zero_mutex? : Mutex → Bool
+zero_mutex? x = eqb x.count 0 && eqb x.owner 0 && zero_token? x.token
 
-abbrev pub zero-thread? : Thread → Bool
-zero-thread? x = eqb x.status 0 && eqb x.holder 0 && eqb x.next 0
+abbrev pub zero_thread? : Thread → Bool
+zero_thread? x = eqb x.status 0 && eqb x.holder 0 && eqb x.next 0
 
 -- a number from 1 to n, or else the test
 abbrev pub within_or : ℕ → ℕ → Bool → Bool
@@ -146,8 +146,8 @@ within_or n i test = in_range 1 n i || test
 
 unfoldable pub zero_past : State → Bool
 zero_past r =
-    each (λ p. within_or r.p p (zero-processor? (processor_of r p))) 0 9 && each (λ m. within_or r.m m (zero-mutex? (mutex_of r m))) 0 9 &&
-    each (λ k. within_or r.t k (zero-thread? (thread_of r k))) 0 33
+    each (λ p. within_or r.p p (zero_processor? (processor_of r p))) 0 9 && each (λ m. within_or r.m m (zero_mutex? (mutex_of r m))) 0 9 &&
+    each (λ k. within_or r.t k (zero_thread? (thread_of r k))) 0 33
 
 unfoldable pub state_ok : State → Bool
 state_ok r = eqb (broken_rule r) 0 && zero_past r

@@ -5,14 +5,14 @@ use mathlib.Core.Path.{◌≡◌, sym}
 use native.Mathlib.Omega.{arith}
 use borrow.Author.Rules.{rules}
 use Rattle.state.specs.Record.{mutex_in}
-use Rattle.state.specs.Rules.{within_or, zero-mutex?}
+use Rattle.state.specs.Rules.{within_or, zero_mutex?}
 use Rattle.reference.specs.Lists.{each}
 use Rattle.reference.proofs.Each.{each_none, each_next₀, each-end}
 use Rattle.rules.proofs.zero.mutexes_past.Statement.{statement}
 use Rattle.rules.proofs.zero.mutexes_past.Tie as tie
 
 abbrev invariant-loop : tie.invariant-loop
-invariant-loop m mutexes ok₀ i₀ ok i = (i ≤ 9) × (ok ≡ each (λ j. within_or m j (zero-mutex? (mutex_in mutexes j))) 0 i)
+invariant-loop m mutexes ok₀ i₀ ok i = (i ≤ 9) × (ok ≡ each (λ j. within_or m j (zero_mutex? (mutex_in mutexes j))) 0 i)
 
 abbrev decreases-loop : tie.decreases-loop
 decreases-loop m mutexes ok₀ i₀ ok i = 9 - i

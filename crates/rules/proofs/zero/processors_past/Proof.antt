@@ -5,14 +5,14 @@ use mathlib.Core.Path.{◌≡◌, sym}
 use native.Mathlib.Omega.{arith}
 use borrow.Author.Rules.{rules}
 use Rattle.state.specs.Record.{processor_in}
-use Rattle.state.specs.Rules.{within_or, zero-processor?}
+use Rattle.state.specs.Rules.{within_or, zero_processor?}
 use Rattle.reference.specs.Lists.{each}
 use Rattle.reference.proofs.Each.{each_none, each_next₀, each-end}
 use Rattle.rules.proofs.zero.processors_past.Statement.{statement}
 use Rattle.rules.proofs.zero.processors_past.Tie as tie
 
 abbrev invariant-loop : tie.invariant-loop
-invariant-loop p processors ok₀ i₀ ok i = (i ≤ 9) × (ok ≡ each (λ j. within_or p j (zero-processor? (processor_in processors j))) 0 i)
+invariant-loop p processors ok₀ i₀ ok i = (i ≤ 9) × (ok ≡ each (λ j. within_or p j (zero_processor? (processor_in processors j))) 0 i)
 
 abbrev decreases-loop : tie.decreases-loop
 decreases-loop p processors ok₀ i₀ ok i = 9 - i

@@ -5,14 +5,14 @@ use mathlib.Core.Path.{◌≡◌, sym}
 use native.Mathlib.Omega.{arith}
 use borrow.Author.Rules.{rules}
 use Rattle.state.specs.Record.{thread_in}
-use Rattle.state.specs.Rules.{within_or, zero-thread?}
+use Rattle.state.specs.Rules.{within_or, zero_thread?}
 use Rattle.reference.specs.Lists.{each}
 use Rattle.reference.proofs.Each.{each_none, each_next₀, each-end}
 use Rattle.rules.proofs.zero.threads_past.Statement.{statement}
 use Rattle.rules.proofs.zero.threads_past.Tie as tie
 
 abbrev invariant-loop : tie.invariant-loop
-invariant-loop t threads ok₀ k₀ ok k = (k ≤ 33) × (ok ≡ each (λ j. within_or t j (zero-thread? (thread_in threads j))) 0 k)
+invariant-loop t threads ok₀ k₀ ok k = (k ≤ 33) × (ok ≡ each (λ j. within_or t j (zero_thread? (thread_in threads j))) 0 k)
 
 abbrev decreases-loop : tie.decreases-loop
 decreases-loop t threads ok₀ k₀ ok k = 33 - k

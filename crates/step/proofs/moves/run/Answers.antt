@@ -79,7 +79,8 @@ read c =
       view = look.look-v.result;
       processor-is =
           proc.by_fields-r.ensures ∙
-          (let h = proc.if-i-lt9.branch in ?);
+          either (λ w. w.2) (λ w. w.1 ∙ zero.zero-nobody.ensures ∙ read_past l.processors 9 p g.processors-size w.0.left zero_processor)
+          proc.if-i-lt9.branch;
       target_is = target.target-m.ensures;
       mutex-is =
           mutex.mutex_by_fields-x.ensures ∙
