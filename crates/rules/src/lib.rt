@@ -1,5 +1,6 @@
 // The rules that a picture keeps (12 fields, 13 chains, 14 holders) and the rule of a session's record (15), as tests on a record.
 #![tactic(auto)]
+
 ghost use Rattle.std.specs.Prelude.{◌≡◌};
 ghost use Rattle.state.specs.Rules.{broken_rule, state_ok, session_ok};
 
