@@ -67,6 +67,20 @@ def shown(names, text):
     return out
 
 
+def kept(function):
+    """The parameters of a function of this repository that are no plain numbers, in order."""
+    crate, name = function.split("::")[0], function.split("::")[-1]
+    folder = os.path.join(os.path.dirname(CRATE), crate, "src")
+    for at, _, found in os.walk(folder):
+        for f in sorted(found):
+            with open(os.path.join(at, f), encoding="utf-8") as it:
+                m = re.search(r"\bfn " + re.escape(name) + r"(?:<[^>]*>)?\(([^)]*)\)", it.read())
+            if m and (len(function.split("::")) < 3 or function.split("::")[-2] in (f[:-3], "State", "Session") or f in ("lib.rt", "main.rt")):
+                params = [p.strip().split(":", 1) for p in m[1].split(",") if ":" in p]
+                return [n.replace("mut ", "").strip() for n, t in params if not re.fullmatch(r"\s*([ui]\d+|usize|bool)\s*", t)]
+    return []
+
+
 def chain(info, place):
     """The indexes of a place and of those before it, or of all where the place is not known."""
     names = [p[0] for p in info["places"]]
@@ -83,7 +97,7 @@ class Steps:
     """What stands for a path at a goal: the steps on the way to it, the arms of its matches, and the clauses of its calls."""
 
     def __init__(self, info, place):
-        self.steps, self.arms, self.clauses = {}, [], {}
+        self.steps, self.arms, self.clauses, self.fields, self.news = {}, [], {}, {}, {}
         depth = {}
         for i in chain(info, place):
             old, new = info["places"][i][2]
@@ -93,6 +107,9 @@ class Steps:
             if arm and depth.get(arm[0], 0) < arm[1]:
                 depth[arm[0]] = arm[1]
                 self.arms += [(canon(o), path, arm[0], field) for field, o, path in arm[2]]
+            self.fields.setdefault(new, dict(info["places"][i][4]))
+            if info["places"][i][3]:
+                self.news.setdefault(new, kept(info["places"][i][3]))
             clauses = info["clauses"][i]
             if clauses:
                 self.clauses[new] = clauses["fields"]
@@ -124,13 +141,22 @@ class Steps:
             segs[1] = self.args.get(canon(segs[1]), segs[1])
         if segs[0] == "requires" and len(segs) > 1 and segs[1].isdigit() and int(segs[1]) < len(self.pre):
             segs[1] = self.pre[int(segs[1])]
+        if len(segs) > 1 and segs[1] in self.fields.get(segs[0], {}):
+            segs[1] = self.fields[segs[0]][segs[1]]
+        if len(segs) > 2 and segs[1] == "new":
+            n = 0
+            while len(segs) > 2 + n and segs[2 + n] == "1":
+                n += 1
+            names = self.news.get(segs[0], [])
+            if len(segs) > 2 + n and segs[2 + n] == "0" and n < len(names):
+                segs[2 : 3 + n] = [names[n]]
         fields = self.clauses.get(segs[0])
         if fields and len(segs) > 2 and segs[1] == "ensures" and segs[2].isdigit() and int(segs[2]) < len(fields):
             segs[2] = fields[int(segs[2])]
         return segs
 
 
-def path(text, turned):
+def path(text, turned, helper=False):
     """c.before.if1.true as c.if-x-lt3.true, also from a name that is let be c or a step before it."""
     roots, args = {"c"}, set()
     kinds = {}
@@ -139,7 +165,7 @@ def path(text, turned):
         segs = m[0].split(".")
         if segs[0] in args and len(segs) > 1:
             return ".".join([segs[0], turned.args.get(canon(segs[1]), segs[1])] + segs[2:])
-        if segs[0] not in roots:
+        if segs[0] not in roots or (helper and "before" not in segs):
             return m[0]
         return ".".join([segs[0]] + turned.turn(segs[1:]))
 
@@ -224,7 +250,8 @@ def convert(file):
     everywhere = Steps(info, None)
     at = {n[1]: a[0] for n, a in zip(info["needs"], info["asked_at"])}
     asked = {n: info["asked"][o] for o, n in info["needs"] if o in info["asked"]}
-    called = {}
+    called, shared = {}, []
+    stated = "\n".join(p for p in pieces if " : tie.invariant-" in p or " : tie.decreases-" in p)
     old_needs = {canon(o): n for o, n in reversed(info["needs"])}
     new_needs = {canon(n): n for o, n in info["needs"]}
     invariants, answers = [], []
@@ -273,13 +300,21 @@ def convert(file):
             continue
         if re.match(r"(?:pub )?\S+[-_]spec : \{M : Type 1\} → statement M", lines[0]):
             continue
-        answers.append("\n".join(comments(piece) + [path(body, everywhere)]))
+        said = "\n".join(comments(piece) + [path(body, everywhere, True)])
+        if lines[0].startswith("abbrev") and re.search(r"(?<![\w.'-])" + re.escape(lines[0].split()[1]) + r"(?![\w'-])", stated):
+            name = lines[0].split()[1]
+            invariants.insert(sum(p.startswith("abbrev pub") and " : goal." not in p for p in invariants), said.replace("abbrev " + name, "abbrev pub " + name, 1))
+            shared.append(name)
+            continue
+        answers.append(said)
     answers = [re.sub(r"(?<=stage )[^\s()]+", lambda k: called.get(k[0], k[0]), a) for a in answers]
     folder = os.path.dirname(file)
 
     def write(kind, goals, parts):
         text = "\n\n".join(parts)
         own = [u for u in shown(uses, text)]
+        if shared and kind == "Answers.antt":
+            own += shown([f"use Rattle.{NAME}.proofs.{module}.Invariants.{{{', '.join(shared)}}}"], text)
         own.append(f"use Rattle.{NAME}.proofs.{module}.{goals} as goal")
         with open(os.path.join(folder, kind), "w", encoding="utf-8") as f:
             f.write("\n".join(title + own) + "\n\n" + text + "\n")
