@@ -158,6 +158,7 @@ class Steps:
 
 def path(text, turned, helper=False):
     """c.before.if1.true as c.if-x-lt3.true, also from a name that is let be c or a step before it."""
+    text = re.sub(r"\.«([^»]*)»", r".\1", text)
     roots, args = {"c"}, set()
     kinds = {}
 

@@ -1,5 +1,6 @@
 // One move that also says which shared word it read and which it wrote.
 #![tactic(auto)]
+
 mod words;
 
 ghost use Rattle.std.specs.Prelude.{◌≡◌, eqb};

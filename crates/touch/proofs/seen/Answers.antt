@@ -10,9 +10,7 @@ use Rattle.state.specs.declared.queues.Taken.TheVariants.{Thread, Nothing}
 use Rattle.state.specs.Model.Access.{taken}
 use Rattle.reference.specs.Lists.{choose}
 use Rattle.step.specs.Model.Moves.{nothing_there}
-use borrow.Author.Rules.{rules}
-use Rattle.touch.proofs.seen.Statement.{statement}
-use Rattle.touch.proofs.seen.Tie as tie
+use Rattle.touch.proofs.seen.Goals as goal
 
 -- a queue that has no first is found empty
 none_there : (c : Chains) (q : ℕ) → eqb (get_or c.firsts q 0) 0 ≡ nothing_there (taken c q)
@@ -23,29 +21,18 @@ none_there c q = by (eqb (get_or c.firsts q 0) 0) _ _
     by true k n = refl
     by false k n = refl
 
-returns : tie.Need-returns
+pub returns : goal.returns
 returns c =
-    let m = c.before.before.before.before.before in
-    let r = m.before.before in
-    let a = r.before.args in
-    let i = c.before.before.index_of in
+    let m = c in
+    let r = m in
+    let a = r.args in
+    let i = c.index_of-index in
     rw (
-      c.first-at2.ensures,
-      c.before.first-at.ensures,
+      c.first_at-ready.ensures,
+      c.first_at-waiting.ensures,
       none_there a.s.chains i.result,
-      none_there a.s.chains r.processor.result.mutex,
+      none_there a.s.chains r.processor-r.result.mutex,
       i.ensures,
-      m.mutex_at.ensures,
-      r.processor.ensures,
+      m.mutex_at-x.ensures,
+      r.processor-r.ensures,
     )
-
-pub seen-spec : {M : Type 1} → statement M
-seen-spec =
-    tie.close
-    (tie.spec
-    (λ c κs. search rules)
-    (λ c κs. search rules)
-    (λ c κs. search rules)
-    (λ c κs. search rules)
-    (λ c κs. search rules)
-    returns)

@@ -1,0 +1,10 @@
+-- `touch::touched` meets its contract.
+-- Assumes nothing.
+use borrow.Author.Tests.{eq-eqb, ne_eqb}
+use Rattle.touch.proofs.touched.Goals as goal
+
+pub returns-then-refusal-ne0 : goal.returns-then-refusal-ne0
+returns-then-refusal-ne0 c = rw (ne_eqb c.args.refusal 0 c.if-refusal-ne0.true) c.nothing.ensures
+
+pub returns : goal.returns
+returns c = rw (eq-eqb c.args.refusal 0 c.if-refusal-ne0.false, ← c.seen-v.ensures) c.act.ensures
