@@ -1,5 +1,6 @@
 // Pictures of a state: writing one into a lent buffer, reading one from bytes; and turns ahead.
 #![tactic(auto)]
+
 ghost use Rattle.std.specs.Prelude.{◌≡◌, length};
 ghost use Rattle.picture.specs.Picture.{write_refusal, written, read};
 ghost use Rattle.picture.specs.Turns.{meaning, ahead, answer};
