@@ -143,7 +143,7 @@ class Steps:
             segs[1] = self.pre[int(segs[1])]
         if len(segs) > 1 and segs[1] in self.fields.get(segs[0], {}):
             segs[1] = self.fields[segs[0]][segs[1]]
-        if len(segs) > 2 and segs[1] == "new":
+        if len(segs) > 2 and segs[1] in ("new", "auto"):
             n = 0
             while len(segs) > 2 + n and segs[2 + n] == "1":
                 n += 1
@@ -159,13 +159,15 @@ class Steps:
 def path(text, turned, helper=False):
     """c.before.if1.true as c.if-x-lt3.true, also from a name that is let be c or a step before it."""
     text = re.sub(r"\.«([^»]*)»", r".\1", text)
-    roots, args = {"c"}, set()
+    roots, args, calls = {"c"}, set(), {}
     kinds = {}
 
     def one(m):
         segs = m[0].split(".")
         if segs[0] in args and len(segs) > 1:
             return ".".join([segs[0], turned.args.get(canon(segs[1]), segs[1])] + segs[2:])
+        if segs[0] in calls and len(segs) > 1:
+            return ".".join([segs[0]] + turned.turn([calls[segs[0]]] + segs[1:])[1:])
         if segs[0] not in roots or (helper and "before" not in segs):
             return m[0]
         return ".".join([segs[0]] + turned.turn(segs[1:]))
@@ -176,6 +178,8 @@ def path(text, turned, helper=False):
             segs = m[2].split(".")
             if segs[0] in roots and all(s == "before" for s in segs[1:]):
                 roots.add(m[1])
+            elif segs[0] in roots and canon(segs[-1]) in turned.steps and all(s == "before" for s in segs[1:-1]):
+                calls[m[1]] = segs[-1]
             elif segs[0] in roots and segs[-1] == "args" and all(s == "before" for s in segs[1:-1]):
                 args.add(m[1])
         out.append(re.sub(r"(?<![\w.'-])[^\W\d][\w'₀-₉-]*(?:\.[^\s(){}.;,@\"«»]+)+", one, line))
@@ -185,6 +189,11 @@ def path(text, turned, helper=False):
 def as_record(text, fields):
     """A tuple at the end of an answer as the record of the clauses."""
     s = text.rstrip()
+    last = max(s.rfind(" in\n"), s.rfind(" in "), s.rfind(" =\n"), s.rfind(" = ") if " in" not in s else -1)
+    said = re.sub(r"^ (in|=)\s+", "", s[last:]) if last >= 0 else ""
+    if re.match(r"[^\W\d][\w'-]* ", said) and not re.match(r"(rw|simp|search|grind|omega|record|absurd|let|elim|unfold|cc)\b", said):
+        head = s[: len(s) - len(said)]
+        return head + "let all = " + said + " in\n    record { " + "; ".join(f"{f} = all.{k}" for k, f in enumerate(fields)) + " }"
     if not s.endswith(")"):
         return text
     depth, i = 0, len(s)

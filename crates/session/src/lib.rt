@@ -1,5 +1,6 @@
 // Sessions: start, move, going to a step, what the last move touched, the journal's front and its test.
 #![tactic(auto)]
+
 pub mod journal;
 mod replay;
 mod same;
