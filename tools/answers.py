@@ -212,6 +212,8 @@ def as_record(text, fields):
             cur += ch
     if cur.strip():
         parts.append(cur)
+    if len(parts) == 1 and re.search(r"\brw (\S+|\([^()]*\)) $", s[:i]) and re.match(r"[^\W\d][\w'-]* ", parts[0]) and not re.match(r"(rw|simp|search|grind|omega|record|absurd|let|elim|unfold|cc|λ)\b", parts[0]):
+        return s[:i] + "(let all = " + parts[0] + " in record { " + "; ".join(f"{f} = all.{k}" for k, f in enumerate(fields)) + " })"
     if len(parts) != len(fields) or not re.search(r"(=|\bin|\n|\))\s*$|(rw|simp) \S+ $", s[:i]):
         return text
     return s[:i] + "(record { " + "; ".join(f"{f} = {' '.join(p.split())}" for f, p in zip(fields, parts)) + " })"

@@ -16,9 +16,9 @@ replayed-found-requires c = (sym c.lent-first.ensures ∙ c.if-first-ne0.false, 
 pub returns-then-agrees : goal.returns-then-agrees
 returns-then-agrees c =
     let found = c.replayed-found in
-    goto-taken _ _ _ (sym c.lent-first.ensures ∙ c.if-first-ne0.false) c.if-kept-k.false found.result found.ensures.0 c.if-agrees.true
+    goto-taken _ _ _ (sym c.lent-first.ensures ∙ c.if-first-ne0.false) c.if-kept-k.false found.result found.ensures.state c.if-agrees.true
 
 pub returns : goal.returns
 returns c =
     let found = c.replayed-found in
-    goto_mismatch _ _ _ (sym c.lent-first.ensures ∙ c.if-first-ne0.false) c.if-kept-k.false found.result found.ensures.0 c.if-agrees.false
+    goto_mismatch _ _ _ (sym c.lent-first.ensures ∙ c.if-first-ne0.false) c.if-kept-k.false found.result found.ensures.state c.if-agrees.false

@@ -10,7 +10,7 @@ pub returns-then-first-ne0 : goal.returns-then-first-ne0
 returns-then-first-ne0 c =
     let a = c.args in
     let test = c.test-first in
-    rw c.refused.ensures (move_untested a.session a.journal.now (move_of a.p a.a a.o) test.result test.ensures.0 c.if-first-ne0.true)
+    rw c.refused.ensures (let all = move_untested a.session a.journal.now (move_of a.p a.a a.o) test.result test.ensures.number c.if-first-ne0.true in record { answer = all.0; written = all.1 })
 
 pub returns : goal.returns
 returns c =

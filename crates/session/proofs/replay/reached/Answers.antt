@@ -36,8 +36,8 @@ returns-then-middle-eq0 c =
     let first = c.start-first in
     let front = c.part-front in
     let middle = c.part-middle in
-    let f = front.ensures.0 ∙ ap (λ (s : State). run_of s (between 0 a j)) first.ensures in
-    let n = front.ensures.1 ∙ ap (λ (s : State). counted_of s (between 0 a j) t.args.calls.now) first.ensures in (record { states = rest_ends t.args.session j t.requires.0 a t.args.b t.requires.1 t.requires.2 front.result f c.if-front-eq0.true middle.result middle.ensures.0 c.if-middle-eq0.true c.part-rest.result c.part-rest.ensures.run; calls = middle.ensures.1 ∙ ap (counted_of front.result.state (between a t.args.b j)) n ∙ middle_counts t.args.session j t.requires.0 a t.args.b t.requires.1 t.requires.2 front.result f c.if-front-eq0.true middle.result middle.ensures.0 t.args.calls.now })
+    let f = front.ensures.run ∙ ap (λ (s : State). run_of s (between 0 a j)) first.ensures in
+    let n = front.ensures.calls ∙ ap (λ (s : State). counted_of s (between 0 a j) t.args.calls.now) first.ensures in (record { states = rest_ends t.args.session j t.requires.0 a t.args.b t.requires.1 t.requires.2 front.result f c.if-front-eq0.true middle.result middle.ensures.run c.if-middle-eq0.true c.part-rest.result c.part-rest.ensures.run; calls = middle.ensures.calls ∙ ap (counted_of front.result.state (between a t.args.b j)) n ∙ middle_counts t.args.session j t.requires.0 a t.args.b t.requires.1 t.requires.2 front.result f c.if-front-eq0.true middle.result middle.ensures.run t.args.calls.now })
 
 pub returns-else-middle-eq0 : goal.returns-else-middle-eq0
 returns-else-middle-eq0 c =
@@ -47,8 +47,8 @@ returns-else-middle-eq0 c =
     let first = c.start-first in
     let front = c.part-front in
     let middle = c.part-middle in
-    let f = front.ensures.0 ∙ ap (λ (s : State). run_of s (between 0 a j)) first.ensures in
-    let n = front.ensures.1 ∙ ap (λ (s : State). counted_of s (between 0 a j) t.args.calls.now) first.ensures in (record { states = middle_ends t.args.session j t.requires.0 a t.args.b t.requires.1 t.requires.2 front.result f c.if-front-eq0.true middle.result middle.ensures.0 c.if-middle-eq0.false; calls = middle.ensures.1 ∙ ap (counted_of front.result.state (between a t.args.b j)) n ∙ middle_counts t.args.session j t.requires.0 a t.args.b t.requires.1 t.requires.2 front.result f c.if-front-eq0.true middle.result middle.ensures.0 t.args.calls.now })
+    let f = front.ensures.run ∙ ap (λ (s : State). run_of s (between 0 a j)) first.ensures in
+    let n = front.ensures.calls ∙ ap (λ (s : State). counted_of s (between 0 a j) t.args.calls.now) first.ensures in (record { states = middle_ends t.args.session j t.requires.0 a t.args.b t.requires.1 t.requires.2 front.result f c.if-front-eq0.true middle.result middle.ensures.run c.if-middle-eq0.false; calls = middle.ensures.calls ∙ ap (counted_of front.result.state (between a t.args.b j)) n ∙ middle_counts t.args.session j t.requires.0 a t.args.b t.requires.1 t.requires.2 front.result f c.if-front-eq0.true middle.result middle.ensures.run t.args.calls.now })
 
 pub returns-else-front-eq0 : goal.returns-else-front-eq0
 returns-else-front-eq0 c =
@@ -57,7 +57,7 @@ returns-else-front-eq0 c =
     let a : ℕ = t.args.a in
     let first = c.start-first in
     let front = c.part-front in
-    let f = front.ensures.0 ∙ ap (λ (s : State). run_of s (between 0 a j)) first.ensures in
-    let n = front.ensures.1 ∙ ap (λ (s : State). counted_of s (between 0 a j) t.args.calls.now) first.ensures in
+    let f = front.ensures.run ∙ ap (λ (s : State). run_of s (between 0 a j)) first.ensures in
+    let n = front.ensures.calls ∙ ap (λ (s : State). counted_of s (between 0 a j) t.args.calls.now) first.ensures in
     let e = front_ends t.args.session j t.requires.0 a t.args.b t.requires.1 t.requires.2 front.result f c.if-front-eq0.false t.args.calls.now in
     (record { states = e.0; calls = n ∙ e.1 })

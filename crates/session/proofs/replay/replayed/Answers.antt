@@ -19,7 +19,7 @@ compared-requires c =
     let t = c in
     let r = t.args.session in
     let found = c.reached-found in (
-      standing-ok r (session_sized t.well_formed.0) t.args.journal.now t.requires.0 found.result.whole found.result.high found.ensures.0.whole found.ensures.0.high,
+      standing-ok r (session_sized t.well_formed.0) t.args.journal.now t.requires.0 found.result.whole found.result.high found.ensures.states.whole found.ensures.states.high,
       state-right r (lent_passed _ _ t.requires.0).1,
     )
 
@@ -28,7 +28,7 @@ returns-then-k-n c =
     let t = c in
     let r = t.args.session in
     let found = c.reached-found in
-    let w = found.ensures.0 in (record { state = found-is r (session_sized t.well_formed.0) t.args.journal.now t.requires.0 found.result.whole found.result.high w.whole w.high t.args.k found.result.low w.low c.compared.result c.compared.ensures; calls = found.ensures.1 ∙ ap (λ (n : ℕ). counted_to r n t.args.journal.now t.args.calls.now) (farther-standing r t.args.k c.if-k-n.true) })
+    let w = found.ensures.states in (record { state = found-is r (session_sized t.well_formed.0) t.args.journal.now t.requires.0 found.result.whole found.result.high w.whole w.high t.args.k found.result.low w.low c.compared.result c.compared.ensures; calls = found.ensures.calls ∙ ap (λ (n : ℕ). counted_to r n t.args.journal.now t.args.calls.now) (farther-standing r t.args.k c.if-k-n.true) })
 
 pub reached-found-requires-2 : goal.reached-found-requires-2
 reached-found-requires-2 c = let t = c in (t.requires.0, omega (arith, c.if-k-n.false), t.requires.1)
@@ -38,7 +38,7 @@ compared-requires-2 c =
     let t = c in
     let r = t.args.session in
     let found = c.reached-found-2 in (
-      standing-ok r (session_sized t.well_formed.0) t.args.journal.now t.requires.0 found.result.whole found.result.low found.ensures.0.whole found.ensures.0.low,
+      standing-ok r (session_sized t.well_formed.0) t.args.journal.now t.requires.0 found.result.whole found.result.low found.ensures.states.whole found.ensures.states.low,
       state-right r (lent_passed _ _ t.requires.0).1,
     )
 
@@ -47,4 +47,4 @@ returns c =
     let t = c in
     let r = t.args.session in
     let found = c.reached-found-2 in
-    let w = found.ensures.0 in (record { state = found-is r (session_sized t.well_formed.0) t.args.journal.now t.requires.0 found.result.whole found.result.low w.whole w.low t.args.k found.result.high w.high c.compared-2.result c.compared-2.ensures; calls = found.ensures.1 ∙ ap (λ (n : ℕ). counted_to r n t.args.journal.now t.args.calls.now) (farther-step r t.args.k c.if-k-n.false) })
+    let w = found.ensures.states in (record { state = found-is r (session_sized t.well_formed.0) t.args.journal.now t.requires.0 found.result.whole found.result.low w.whole w.low t.args.k found.result.high w.high c.compared-2.result c.compared-2.ensures; calls = found.ensures.calls ∙ ap (λ (n : ℕ). counted_to r n t.args.journal.now t.args.calls.now) (farther-step r t.args.k c.if-k-n.false) })
