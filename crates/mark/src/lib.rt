@@ -1,5 +1,6 @@
 // Marks for a handed-in picture: each record that agrees with the machine's earns its points.
 #![tactic(auto)]
+
 ghost use Rattle.std.specs.Prelude.{◌≡◌, not, eqb, length};
 ghost use Rattle.reference.specs.Lists.{if_zero};
 ghost use Rattle.reference.specs.Refusal.{bad_length, refuse};
