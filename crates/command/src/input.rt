@@ -4,7 +4,7 @@ ghost use Rattle.command.specs.Transcript.{left_of, Next};
 ghost use Rattle.command.specs.Model.Input.{Scanned};
 
 use crate::line::Line;
-use libc::STDIN_FILENO;
+use std::io::{Read, Stdin};
 
 // What is left of the last read: the bytes of the chunk from `at` up to `end`, which is how many the read brought.
 #[derive(Clone, Copy)]
@@ -30,12 +30,13 @@ pub fn unread() -> Input
 }
 
 // One read: the first `end` bytes of the chunk are what it brought. A failed read brings nothing.
-fn read_chunk(chunk: &mut [u8]) -> Input
+fn read_chunk(mut stdin: Stdin, chunk: &mut [u8]) -> Input
     ensures { (result.at ≡ 0) × (result.end ≤ length chunk.new) }
 {
-    let answer = libc::read(STDIN_FILENO, chunk);
-    let end = io::count(answer, chunk);
-    Input { at: 0, end }
+    match stdin.read(chunk) {
+        Ok(end) => Input { at: 0, end },
+        Err(_) => Input { at: 0, end: 0 },
+    }
 }
 
 // What is left of the chunk, up to a line feed, is added to the line; `ended` where there is none.
@@ -68,7 +69,7 @@ fn scan(input: Input, line: Line, chunk: &[u8], bytes: &mut [u8]) -> NextLine
 
 // The next line, in `bytes`. More is read when the chunk is used up, until a line feed comes or a read brings nothing.
 // A proved loop has to end, so the reads are counted down from a number that no line uses up.
-pub fn next_line(input: Input, chunk: &mut [u8], bytes: &mut [u8]) -> NextLine
+pub fn next_line(stdin: Stdin, input: Input, chunk: &mut [u8], bytes: &mut [u8]) -> NextLine
     ensures { Next input chunk.old bytes.old result chunk.new bytes.new }
 {
     let empty = Line::empty();
@@ -76,7 +77,7 @@ pub fn next_line(input: Input, chunk: &mut [u8], bytes: &mut [u8]) -> NextLine
     let mut left = u64::MAX;
     let mut go = next.ended;
     while left > 0 && go {
-        let fresh = read_chunk(chunk);
+        let fresh = read_chunk(stdin, chunk);
         let line = next.line;
         next = scan(fresh, line, chunk, bytes);
         go = next.ended & (0 < fresh.end);

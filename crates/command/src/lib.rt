@@ -1,5 +1,6 @@
 // The programs' lines: reading them, which command or request a line is, and the bytes of a response.
 #![tactic(auto)]
+
 mod hex;
 pub mod input;
 pub mod line;

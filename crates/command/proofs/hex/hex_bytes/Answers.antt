@@ -1,0 +1,28 @@
+-- `command::hex::hex_bytes` meets its contract.
+use mathlib.Core.Path.{refl}
+use mathlib.Core.List.{[]}
+use native.Mathlib.Omega.{arith}
+use lib.ListN.{get_or-eq_default}
+use Rattle.command.proofs.Digits.{hex-none, hex-some, hex-put}
+use Rattle.command.proofs.hex.hex_bytes.Goals as goal
+
+pub returns-then-s-at : goal.returns-then-s-at
+returns-then-s-at c =
+    let a = c.args in
+    let z = get_or-eq_default a.s.now 0 c.if-s-at.true in
+    let r = hex-put a.s.now a.numbers.now a.numbers.now [] a.at 0 (hex-none a.s.now a.at (λ e. omega (arith, z, e))) refl refl in
+    (r.0, (r.1, r.2))
+
+pub returns-then-s-at-ne32 : goal.returns-then-s-at-ne32
+returns-then-s-at-ne32 c =
+    let a = c.args in
+    let r = hex-put a.s.now a.numbers.now a.numbers.now [] a.at 0 (hex-none a.s.now a.at c.if-s-at-ne32.true) refl refl in
+    (r.0, (r.1, r.2))
+
+pub returns : goal.returns
+returns c =
+    let p = c in
+    let i = p in
+    let a = i.args in
+    let r = hex-put a.s.now a.numbers.now p.pairs.new.numbers _ a.at p.pairs.result (hex-some a.s.now a.at i.if-s-at-ne32.false) p.pairs.ensures.value p.pairs.ensures.numbers_after in
+    (r.0, (r.1, r.2))

@@ -1,0 +1,10 @@
+-- `command::printing::hex_digit` meets its contract.
+use native.Mathlib.Omega.{arith}
+use borrow.Author.Tests.{lt-ltb, le-ltb}
+use Rattle.command.proofs.printing.hex_digit.Goals as goal
+
+pub returns-then-low-lt10 : goal.returns-then-low-lt10
+returns-then-low-lt10 c = rw (lt-ltb _ _ c.if-low-lt10.true)
+
+pub returns-else-low-lt10 : goal.returns-else-low-lt10
+returns-else-low-lt10 c = rw (le-ltb _ _ c.if-low-lt10.false) (omega arith)

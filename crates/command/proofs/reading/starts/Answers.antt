@@ -1,0 +1,20 @@
+-- `command::reading::starts` meets its contract.
+use mathlib.Core.Path.{refl, sym, ◌∙◌}
+use Rattle.command.proofs.Read.{starts-short, starts-differ, starts-next, starts-all}
+use borrow.Author.Rules.{rules}
+use Rattle.command.proofs.reading.starts.Goals as goal
+
+pub loop-i-init : goal.loop-i-init
+loop-i-init c = (search rules, refl)
+
+pub returns-then-s-i : goal.returns-then-s-i
+returns-then-s-i c = let l = c in let a = l.args in sym (starts-short a.word.now a.s.now l.loop-i.i c.loop-i-test.true c.if-s-i.true) ∙ l.loop-i.invariant.1
+
+pub returns-then-s-i-2 : goal.returns-then-s-i-2
+returns-then-s-i-2 c = let l = c in let a = l.args in sym (starts-differ a.word.now a.s.now l.loop-i.i c.loop-i-test.true c.if-s-i.false c.if-s-i-2.true) ∙ l.loop-i.invariant.1
+
+pub loop-i-preserved : goal.loop-i-preserved
+loop-i-preserved c = let l = c in let a = l.args in (search rules, sym (starts-next a.word.now a.s.now l.loop-i.i c.loop-i-test.true c.if-s-i.false c.if-s-i-2.false) ∙ l.loop-i.invariant.1)
+
+pub returns : goal.returns
+returns c = let l = c in let a = l.args in sym (starts-all a.word.now a.s.now l.loop-i.i c.loop-i-test.false) ∙ l.loop-i.invariant.1

@@ -1,0 +1,21 @@
+-- `command::request::turns` meets its contract.
+use native.Mathlib.Omega.{arith}
+use Rattle.command.specs.Model.Request.{turns_from}
+use Rattle.command.proofs.Listed.{turns-read}
+use Rattle.command.proofs.request.turns.Goals as goal
+
+pub returns-then-processors : goal.returns-then-processors
+unfolding turns_from
+returns-then-processors c =
+    let f = c in
+    let a = f.args in
+    let r = turns-read a.s.now a.numbers.now f.fields_at-processors.new.1.1.0 f.fields_at-processors.result f.fields_at-processors.ensures.value f.fields_at-processors.ensures.numbers_after in
+    (rw c.if-processors.true at r.read, (r.buffer, r.few))
+
+pub returns : goal.returns
+unfolding turns_from
+returns c =
+    let f = c in
+    let a = f.args in
+    let r = turns-read a.s.now a.numbers.now f.fields_at-processors.new.1.1.0 f.fields_at-processors.result f.fields_at-processors.ensures.value f.fields_at-processors.ensures.numbers_after in
+    (rw c.if-processors.false at r.read, (r.buffer, omega arith))
