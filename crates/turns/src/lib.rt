@@ -1,5 +1,6 @@
 // Scripted threads: a scripted start, a turn, and a class of turns.
 #![tactic(auto)]
+
 mod made;
 mod sequence;
 
