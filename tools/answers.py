@@ -186,6 +186,21 @@ def path(text, turned, helper=False):
     return "\n".join(out)
 
 
+def split(text):
+    """The parts of a tuple, without its parentheses."""
+    parts, depth, cur = [], 0, ""
+    for ch in text:
+        depth += (ch in "([{") - (ch in ")]}")
+        if ch == "," and not depth:
+            parts.append(cur)
+            cur = ""
+        else:
+            cur += ch
+    if cur.strip():
+        parts.append(cur)
+    return parts
+
+
 def as_record(text, fields):
     """A tuple at the end of an answer as the record of the clauses."""
     s = text.rstrip()
@@ -202,16 +217,9 @@ def as_record(text, fields):
         depth += (s[i] in ")]}") - (s[i] in "([{")
         if not depth:
             break
-    parts, depth, cur = [], 0, ""
-    for ch in s[i + 1 : -1]:
-        depth += (ch in "([{") - (ch in ")]}")
-        if ch == "," and not depth:
-            parts.append(cur)
-            cur = ""
-        else:
-            cur += ch
-    if cur.strip():
-        parts.append(cur)
+    parts = split(s[i + 1 : -1])
+    while len(parts) < len(fields) and parts and parts[-1].strip().startswith("(") and parts[-1].strip().endswith(")"):
+        parts = parts[:-1] + split(parts[-1].strip()[1:-1])
     if len(parts) == 1 and re.search(r"\brw (\S+|\([^()]*\)) $", s[:i]) and re.match(r"[^\W\d][\w'-]* ", parts[0]) and not re.match(r"(rw|simp|search|grind|omega|record|absurd|let|elim|unfold|cc|λ)\b", parts[0]):
         return s[:i] + "(let all = " + parts[0] + " in record { " + "; ".join(f"{f} = all.{k}" for k, f in enumerate(fields)) + " })"
     if len(parts) != len(fields) or not re.search(r"(=|\bin|\n|\))\s*$|(rw|simp) \S+ $", s[:i]):
