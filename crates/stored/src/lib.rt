@@ -1,5 +1,6 @@
 // A session as bytes that the caller keeps: each call reads the record at their front, asks the session's entry point, and writes the record of an accepted call.
 #![tactic(auto)]
+
 ghost use Rattle.std.specs.Prelude.{◌≡◌, length};
 ghost use Rattle.reference.specs.Step.{move_of};
 ghost use Rattle.session.specs.Contract.{table, moved, journal_after, went};
