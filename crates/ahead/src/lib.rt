@@ -1,5 +1,6 @@
 // Turns ahead of a thread, and whether it may be overtaken.
 #![tactic(auto)]
+
 ghost use Rattle.std.specs.Prelude.{◌≡◌};
 ghost use Rattle.ahead.specs.Turns.{meaning, ahead, answer};
 
