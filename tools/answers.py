@@ -93,6 +93,16 @@ def chain(info, place):
     return out
 
 
+def named(segs, fields):
+    """The clause that projections of a tuple nested to the right come to."""
+    k = 0
+    while k + 1 < len(fields) and segs[k : k + 1] == ["1"]:
+        k += 1
+    if len(fields) < 2 or segs[k : k + 1] == ["1"] or (k + 1 < len(fields) and segs[k : k + 1] != ["0"]):
+        return segs
+    return [fields[k]] + segs[k + (k + 1 < len(fields)) :]
+
+
 class Steps:
     """What stands for a path at a goal: the steps on the way to it, the arms of its matches, and the clauses of its calls."""
 
@@ -139,8 +149,8 @@ class Steps:
             segs[0] = self.steps[first]
         if segs[0] == "args" and len(segs) > 1:
             segs[1] = self.args.get(canon(segs[1]), segs[1])
-        if segs[0] == "requires" and len(segs) > 1 and segs[1].isdigit() and int(segs[1]) < len(self.pre):
-            segs[1] = self.pre[int(segs[1])]
+        if segs[0] == "requires":
+            segs = segs[:1] + named(segs[1:], self.pre)
         if len(segs) > 1 and segs[1] in self.fields.get(segs[0], {}):
             segs[1] = self.fields[segs[0]][segs[1]]
         if len(segs) > 2 and segs[1] in ("new", "auto"):
@@ -151,8 +161,8 @@ class Steps:
             if len(segs) > 2 + n and segs[2 + n] == "0" and n < len(names):
                 segs[2 : 3 + n] = [names[n]]
         fields = self.clauses.get(segs[0])
-        if fields and len(segs) > 2 and segs[1] == "ensures" and segs[2].isdigit() and int(segs[2]) < len(fields):
-            segs[2] = fields[int(segs[2])]
+        if fields and len(segs) > 2 and segs[1] == "ensures":
+            segs = segs[:2] + named(segs[2:], fields)
         return segs
 
 
