@@ -1,5 +1,6 @@
 // Functions that C, Rust and Python programs call: numbers and byte slices in, a number out. include/humdayeg.h documents each.
 #![tactic(auto)]
+
 ghost use Rattle.std.specs.Prelude.{◌≡◌, length};
 ghost use Rattle.session.specs.Contract.{table};
 ghost use Rattle.picture.specs.Picture.{read_refusal};
