@@ -8,7 +8,7 @@ use native.Mathlib.Omega.{arith}
 use lib.Dec.{eqb, leb}
 use lib.ListN.{length}
 use borrow.Author.Tests.{leb-false}
-use Rattle.reference.specs.Lists.{at, put, sum, is, occurrences}
+use Rattle.reference.specs.Lists.{put, sum, is, occurrences}
 use Rattle.reference.specs.State.{State, Processor, Mutex, live, terminated, Line, App, L1, L9, TL3, U1, H5, row, same_line, nobody, free_mutex, processor_at, mutex_at}
 use Rattle.reference.specs.Step.{View, view, works_on, Action, go, lock, trylock, unlock, yield, exit, create, act, target, created_by, ended_by, put_back, Move, action_of, next}
 use Rattle.reference.specs.Cause.{is_go, operand_fits, cause}

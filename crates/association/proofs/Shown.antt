@@ -10,7 +10,7 @@ use native.Mathlib.Decide.{dec_le}
 use lib.Dec.{leb}
 use lib.ListN.{length}
 use borrow.Author.Tests.{eq-eqb, ne_eqb, lt-leb}
-use Rattle.reference.specs.Lists.{at, sum, occurrences, if_empty, in_range}
+use Rattle.reference.specs.Lists.{sum, occurrences, if_empty, in_range}
 use Rattle.reference.specs.State as reference
 use Rattle.reference.specs.State.{nobody, free_mutex, processor_at, mutex_at}
 use Rattle.reference.specs.Safe.{In}

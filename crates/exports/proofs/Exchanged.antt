@@ -6,18 +6,18 @@ use mathlib.Core.List.{List, [], ◌∷◌}
 use mathlib.Core.Path.{◌≡◌, refl, sym, ap, ◌∙◌}
 use native.Mathlib.Omega.{arith}
 use lib.ListN.{length}
-use Rattle.exports.specs.Replay.{Replay, found, replay, whole, replay_refusal, replay_place, replay_buffer}
+use Rattle.exports.specs.Replay.{found, replay, whole, replay_refusal, replay_place, replay_buffer}
 use Rattle.exports.specs.Words.{moves_in}
 use Rattle.exports.specs.Independent.{independent_refusal, independent_answer, ExchangeReplays}
 use Rattle.exports.proofs.Tried.{none_first}
 use Rattle.exports.proofs.Touched.{replay_cons, replay-accepted}
-use Rattle.independence.specs.Exchange.{may_exchange, exchange, SameEnd, rearranged, may_rearrange}
+use Rattle.independence.specs.Exchange.{may_exchange, exchange, rearranged, may_rearrange}
 use Rattle.independence.proofs.Lists.{rearranges}
 use Rattle.reference.specs.Lists.{if_zero}
 use Rattle.reference.specs.State.{State}
 use Rattle.reference.specs.Start.{Config, config_cause, start}
 use Rattle.reference.specs.Step.{Move, move_of, next, run}
-use Rattle.reference.specs.Cause.{cause, accepted}
+use Rattle.reference.specs.Cause.{accepted}
 use Rattle.reference.specs.Safe.{one_if}
 use Rattle.reference.specs.Session.{bytes, moves}
 use Rattle.reference.proofs.Tests.{both}

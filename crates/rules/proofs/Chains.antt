@@ -17,7 +17,7 @@ use Rattle.state.specs.Record.{chain}
 use Rattle.state.specs.Association.{queued_as}
 use Rattle.state.proofs.Numbers.{stands, number_one, mutex_as, ready_as}
 use Rattle.reference.specs.Safe.{In}
-use Rattle.state.specs.Rules.{every, no_twice, placed_in, met, chain_ok, chains_in}
+use Rattle.state.specs.Rules.{every, no_twice, placed_in, chain_ok, chains_in}
 use Rattle.rules.specs.declared.chain.Walked.{Walked}
 use Rattle.rules.specs.Walk.{has_bit, Walk, ended, along, walk_before, walk_to, Represents, threads_before}
 use Rattle.rules.specs.Model.Chain.{queued, none_missed}

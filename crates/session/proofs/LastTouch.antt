@@ -15,7 +15,7 @@ use Rattle.reference.specs.Start.{Config, start}
 use Rattle.reference.specs.Step.{Move, run}
 use Rattle.reference.specs.Cause.{cause, accepted}
 use Rattle.reference.specs.Lists.{choose}
-use Rattle.reference.specs.Touch.{nothing, touch, touched, last_touch}
+use Rattle.reference.specs.Touch.{nothing, touched, last_touch}
 use Rattle.reference.specs.Session.{moves}
 use Rattle.reference.proofs.Moves.{last_snoc, accepted-last}
 use Rattle.touch.specs.declared.Made.{Made}

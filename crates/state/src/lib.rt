@@ -1,5 +1,6 @@
 // The machine's record as structs by value, with its queues as chains of threads.
 #![tactic(auto)]
+
 pub mod access;
 pub mod chain;
 pub mod layout;

@@ -1,6 +1,6 @@
 -- What the code says that a move touches is what the reference machine's move touches.
 -- Assumes nothing.
-use Prim.Native.Nat.{ℕ, ◌+◌, ◌-◌}
+use Prim.Native.Nat.{ℕ, ◌+◌}
 use mathlib.Core.Bool.{true, not}
 use mathlib.Core.List.{List, [], ◌∷◌}
 use mathlib.Core.Path.{◌≡◌, refl, ap, subst, ◌∙◌}
@@ -25,7 +25,7 @@ use Rattle.step.specs.Model.Moves.{nothing_there, view_of}
 use Rattle.reference.specs.Lists.{choose, if_empty}
 use Rattle.reference.specs.State.{State, Processor, Line, App, CI2, CI3, L1, L3, L4, L6, L7, L8, L9, L10, TL1, GT1, GT3, TL3, U1, H2, H3, H5, H6, H8, Y1, Y2, Y3, C2, processor_at, mutex_at}
 use Rattle.reference.specs.State as reference
-use Rattle.reference.specs.Step.{View, view, works_on, Action, go, lock, trylock, unlock, yield, exit, create, action_of, Move, next}
+use Rattle.reference.specs.Step.{view, works_on, Action, go, lock, trylock, unlock, yield, exit, create, action_of, Move, next}
 use Rattle.reference.specs.Cause.{cause}
 use Rattle.reference.specs.Safe.{In}
 use Rattle.reference.specs.Touch.{Word, none, count, token, queue, ready, birth, Touch, nothing, looks_at, changes, line_touch, act_touch, touch}

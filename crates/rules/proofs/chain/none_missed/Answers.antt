@@ -2,7 +2,6 @@
 -- Assumes nothing.
 use mathlib.Core.Path.{sym}
 use native.Mathlib.Omega.{arith}
-use Rattle.rules.specs.Model.Bytes.{thread_in_bytes}
 use Rattle.reference.proofs.Each.{each_none, each_next, each-end}
 use Rattle.rules.proofs.chain.none_missed.Goals as goal
 

@@ -1,7 +1,6 @@
 -- `rules::chain::walk_to` meets its contract: after q turns, the walk of all queues before q.
 -- Assumes nothing.
 use Prim.Native.Nat.{ℕ}
-use mathlib.Core.Bool.{false}
 use mathlib.Core.Path.{◌≡◌}
 use native.Mathlib.Omega.{arith}
 use lib.ListN.{get_or}
