@@ -1,11 +1,12 @@
 -- `command::input::scan` meets its contract.
 use native.Mathlib.Omega.{arith}
 use mathlib.Core.Path.{refl}
-use mathlib.Core.Logic.{inl, inr, ⊎_elim}
+use mathlib.Core.Logic.{inl, inr}
 use Rattle.command.proofs.Scan.{scan_begun, scan_more, scan_found, scan_ended, left_more, left-none}
-use borrow.Author.Tests.{ltb-true, ltb-false}
+use borrow.Author.Tests.{ltb-true}
 use borrow.Author.Rules.{rules}
 use Rattle.command.proofs.input.scan.Goals as goal
+use Rattle.command.proofs.input.scan.Goals.{then-loop-at-test+else-at-chunk, else-loop-at-test}
 
 pub loop-at-init : goal.loop-at-init
 loop-at-init c = (refl, scan_begun _ _ _)
@@ -36,4 +37,4 @@ returns c =
     let t = c in
     let l = t in
     let a = l.args in
-    (refl, scan_ended _ _ _ _ _ _ _ l.loop-at.invariant.1 (left-none l.loop-at.at a.input.end a.chunk.now (⊎_elim (λ w. inr (ltb-false _ _ w.1.left)) (λ w. inl w.left) t.loop-at-test.branch)))
+    (refl, scan_ended _ _ _ _ _ _ _ l.loop-at.invariant.1 (left-none l.loop-at.at a.input.end a.chunk.now (elim c.loop-at-test.branch [ then-loop-at-test+else-at-chunk w ↦ inr w.if-at-chunk.false | else-loop-at-test w ↦ inl w.loop-at-test.false ])))

@@ -9,14 +9,14 @@ use Rattle.command.proofs.request.request_of.Goals as goal
 pub returns-then-numbers-lt1024 : goal.returns-then-numbers-lt1024
 unfolding ask_of front_of
 returns-then-numbers-lt1024 c =
-    let e = lt-ltb _ _ c.if-numbers-lt1024.true in (rw e, (rw e, omega arith))
+    let e = lt-ltb _ _ c.if-numbers-lt1024.true in record { numbers_after = rw e; numbers_after_2 = rw e; result_bound = omega arith }
 
 pub returns-then-line-gt2048 : goal.returns-then-line-gt2048
 unfolding ask_of front_of
 returns-then-line-gt2048 c =
     let d = le-ltb _ _ c.if-numbers-lt1024.false in
     let e = lt-ltb 2048 (length c.args.line.now) (omega arith) in
-    (rw (d, e), (rw (d, e), omega arith))
+    record { numbers_after = rw (d, e); numbers_after_2 = rw (d, e); result_bound = omega arith }
 
 pub returns-then-starts : goal.returns-then-starts
 unfolding ask_of front_of
@@ -26,7 +26,7 @@ returns-then-starts c =
     let d = le-ltb _ _ t.if-numbers-lt1024.false in
     let e = le-ltb 2048 (length t.args.line.now) (omega arith) in
     let q = sym t.starts.ensures ∙ r.if-starts.true in
-    (rw (d, e, q) r.script.ensures.numbers_after, (rw (d, e, q) r.script.ensures.numbers_after_2.0, r.script.ensures.numbers_after_2.1))
+    record { numbers_after = rw (d, e, q) r.script.ensures.numbers_after; numbers_after_2 = rw (d, e, q) r.script.ensures.numbers_after_2; result_bound = r.script.ensures.result_bound }
 
 pub returns-then-starts-2 : goal.returns-then-starts-2
 unfolding ask_of front_of
@@ -38,7 +38,7 @@ returns-then-starts-2 c =
     let e = le-ltb 2048 (length t.args.line.now) (omega arith) in
     let q = sym t.starts.ensures ∙ u.if-starts.false in
     let p = sym u.starts-2.ensures ∙ r.if-starts-2.true in
-    (rw (d, e, q, p) r.turns.ensures.numbers_after, (rw (d, e, q, p) r.turns.ensures.numbers_after_2.0, r.turns.ensures.numbers_after_2.1))
+    record { numbers_after = rw (d, e, q, p) r.turns.ensures.numbers_after; numbers_after_2 = rw (d, e, q, p) r.turns.ensures.numbers_after_2; result_bound = r.turns.ensures.result_bound }
 
 pub returns-then-starts-3 : goal.returns-then-starts-3
 unfolding ask_of front_of
@@ -52,7 +52,7 @@ returns-then-starts-3 c =
     let q = sym t.starts.ensures ∙ u.if-starts.false in
     let p = sym u.starts-2.ensures ∙ v.if-starts-2.false in
     let m = sym v.starts-3.ensures ∙ r.if-starts-3.true in
-    (rw (d, e, q, p, m) r.mark.ensures.numbers_after, (rw (d, e, q, p, m) r.mark.ensures.numbers_after_2.0, r.mark.ensures.numbers_after_2.1))
+    record { numbers_after = rw (d, e, q, p, m) r.mark.ensures.numbers_after; numbers_after_2 = rw (d, e, q, p, m) r.mark.ensures.numbers_after_2; result_bound = r.mark.ensures.result_bound }
 
 pub returns : goal.returns
 unfolding ask_of front_of
@@ -66,4 +66,4 @@ returns c =
     let p = sym u.starts-2.ensures ∙ v.if-starts-2.false in
     let m = sym v.starts-3.ensures ∙ c.if-starts-3.false in
     let n = c.short.ensures.result_value in
-    (rw (d, e, q, p, m) (c.short.ensures.by_index _), (rw (d, e, q, p, m), omega arith))
+    record { numbers_after = rw (d, e, q, p, m) (c.short.ensures.by_index _); numbers_after_2 = rw (d, e, q, p, m); result_bound = omega arith }

@@ -10,8 +10,8 @@ returns-then-k-calls c =
     let f = c in
     let k = f in
     let a = k.args in
-    let r = script-read a.s.now a.numbers.now f.fields_at-calls.new.1.1.0 k.field_at-k.result f.fields_at-calls.result k.field_at-k.ensures f.fields_at-calls.ensures.value f.fields_at-calls.ensures.numbers_after in
-    (rw c.if-k-calls.true at r.read, (r.buffer, r.few))
+    let r = script-read a.s.now a.numbers.now f.fields_at-calls.new.numbers k.field_at-k.result f.fields_at-calls.result k.field_at-k.ensures f.fields_at-calls.ensures.value f.fields_at-calls.ensures.numbers_after in
+    record { numbers_after = rw c.if-k-calls.true at r.read; numbers_after_2 = r.buffer; result_bound = r.few }
 
 pub returns : goal.returns
 unfolding script_from
@@ -19,5 +19,5 @@ returns c =
     let f = c in
     let k = f in
     let a = k.args in
-    let r = script-read a.s.now a.numbers.now f.fields_at-calls.new.1.1.0 k.field_at-k.result f.fields_at-calls.result k.field_at-k.ensures f.fields_at-calls.ensures.value f.fields_at-calls.ensures.numbers_after in
-    (rw c.if-k-calls.false at r.read, (r.buffer, omega arith))
+    let r = script-read a.s.now a.numbers.now f.fields_at-calls.new.numbers k.field_at-k.result f.fields_at-calls.result k.field_at-k.ensures f.fields_at-calls.ensures.value f.fields_at-calls.ensures.numbers_after in
+    record { numbers_after = rw c.if-k-calls.false at r.read; numbers_after_2 = r.buffer; result_bound = omega arith }
