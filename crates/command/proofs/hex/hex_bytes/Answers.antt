@@ -21,8 +21,6 @@ returns-then-s-at-ne32 c =
 
 pub returns : goal.returns
 returns c =
-    let p = c in
-    let i = p in
-    let a = i.args in
-    let r = hex-put a.s.now a.numbers.now p.pairs.new.numbers _ a.at p.pairs.result (hex-some a.s.now a.at i.if-s-at-ne32.false) p.pairs.ensures.value p.pairs.ensures.numbers_after in
+    let a = c.args in
+    let r = hex-put a.s.now a.numbers.now c.pairs.new.numbers _ a.at c.pairs.result (hex-some a.s.now a.at c.if-s-at-ne32.false) c.pairs.ensures.value c.pairs.ensures.numbers_after in
     record { value = r.0; numbers_after = r.1; result_in_bounds = r.2 }
