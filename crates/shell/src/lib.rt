@@ -1,5 +1,6 @@
 // The session that a program holds, and its answers to the lines of the stepper, put at the front of the output.
 #![tactic(auto)]
+
 ghost use Rattle.std.specs.Prelude.{◌≡◌, false, List, ℕ};
 ghost use Rattle.command.specs.Printing.{buffer_of, add};
 ghost use Rattle.reference.specs.Step.{move_of};

@@ -1,5 +1,6 @@
 // A state as a table that a person reads, with what a move touched.
 #![tactic(auto)]
+
 ghost use Rattle.std.specs.Prelude.{◌≡◌};
 ghost use Rattle.command.specs.Printing.{buffer_of, add};
 ghost use Rattle.touch.specs.Association.{touch_shown};

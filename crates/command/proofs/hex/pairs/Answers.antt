@@ -10,23 +10,17 @@ loop-n-init c = (omega arith, refl, front-none _ _)
 
 pub returns-then-high-gt15 : goal.returns-then-high-gt15
 returns-then-high-gt15 c =
-    let w = c in
-    let v = w in
-    let all = front-high _ _ _ _ v.loop-n.invariant.2 (omega arith) _ _ v.worth-high.ensures w.worth-low.ensures (omega arith) in
+    let all = front-high _ _ _ _ c.loop-n.invariant.2 (omega arith) _ _ c.worth-high.ensures c.worth-low.ensures (omega arith) in
     record { value = all.0; numbers_after = all.1 }
 
 pub returns-then-low-gt15 : goal.returns-then-low-gt15
 returns-then-low-gt15 c =
-    let w = c in
-    let v = w in
-    let all = front_low _ _ _ _ v.loop-n.invariant.2 (omega arith) _ _ v.worth-high.ensures w.worth-low.ensures (omega arith) (omega arith) in
+    let all = front_low _ _ _ _ c.loop-n.invariant.2 (omega arith) _ _ c.worth-high.ensures c.worth-low.ensures (omega arith) (omega arith) in
     record { value = all.0; numbers_after = all.1 }
 
 pub loop-n-preserved : goal.loop-n-preserved
 loop-n-preserved c =
-    let w = c in
-    let v = w in
-    (omega arith, simp length-set (omega arith), front-next _ _ _ _ v.loop-n.invariant.2 (omega arith) _ _ v.worth-high.ensures w.worth-low.ensures (omega arith) (omega arith) (omega arith))
+    (omega arith, simp length-set (omega arith), front-next _ _ _ _ c.loop-n.invariant.2 (omega arith) _ _ c.worth-high.ensures c.worth-low.ensures (omega arith) (omega arith) (omega arith))
 
 pub returns : goal.returns
 returns c = let all = front-end _ _ _ _ c.loop-n.invariant.2 (omega arith) in

@@ -10,22 +10,12 @@ loop-left-init c = (refl, refl, λ input before x. x)
 
 pub loop-left-preserved : goal.loop-left-preserved
 loop-left-preserved c =
-    let s = c in
-    let r = s in
-    let i = r in
-    let l = i in
-    (search rules, search rules, λ input before x. reading_more _ _ _ _ _ _ _ _ _ _ _ _ (l.loop-left.invariant.2 input before x) i.if-go.true i.loop-left-test.true r.read_chunk-fresh.ensures.0 s.scan-next-in-loop-left.ensures.0 s.scan-next-in-loop-left.ensures.1)
+    (search rules, search rules, λ input before x. reading_more _ _ _ _ _ _ _ _ _ _ _ _ (c.loop-left.invariant.2 input before x) c.if-go.true c.loop-left-test.true c.read_chunk-fresh.ensures.0 c.scan-next-in-loop-left.ensures.0 c.scan-next-in-loop-left.ensures.1)
 
 pub returns-else-go : goal.returns-else-go
 returns-else-go c =
-    let l = c in
-    let s = l in
-    let e = s in
-    reading_done _ _ _ _ _ _ _ _ (l.loop-left.invariant.2 e.args.input e.args.bytes.now (reading_begun _ _ _ _ _ _ e.empty-empty.ensures s.scan-next.ensures.0 s.scan-next.ensures.1)) (inl c.if-go.false)
+    reading_done _ _ _ _ _ _ _ _ (c.loop-left.invariant.2 c.args.input c.args.bytes.now (reading_begun _ _ _ _ _ _ c.empty-empty.ensures c.scan-next.ensures.0 c.scan-next.ensures.1)) (inl c.if-go.false)
 
 pub returns-after-loop-left : goal.returns-after-loop-left
 returns-after-loop-left c =
-    let l = c in
-    let s = l in
-    let e = s in
-    reading_done _ _ _ _ _ _ _ _ (l.loop-left.invariant.2 e.args.input e.args.bytes.now (reading_begun _ _ _ _ _ _ e.empty-empty.ensures s.scan-next.ensures.0 s.scan-next.ensures.1)) (inr c.loop-left-test.false)
+    reading_done _ _ _ _ _ _ _ _ (c.loop-left.invariant.2 c.args.input c.args.bytes.now (reading_begun _ _ _ _ _ _ c.empty-empty.ensures c.scan-next.ensures.0 c.scan-next.ensures.1)) (inr c.loop-left-test.false)

@@ -8,7 +8,7 @@ use Rattle.command.proofs.Scan.{Reading}
 use Rattle.command.proofs.input.next_line.Given as goal
 
 abbrev pub invariant-loop-left : goal.invariant-loop-left
-invariant-loop-left l = (length chunk ≡ length chunk₀) × (length bytes ≡ length bytes₀) × ((input : Input) (before : List ℕ) → Reading input chunk₀ before next₀ chunk₀ bytes₀ left₀ go₀ → Reading input chunk₀ before next chunk bytes left go)
+invariant-loop-left l = (length l.chunk ≡ length l.initial.chunk) × (length l.bytes ≡ length l.initial.bytes) × ((input : Input) (before : List ℕ) → Reading input l.initial.chunk before l.initial.next l.initial.chunk l.initial.bytes l.initial.left l.initial.go → Reading input l.initial.chunk before l.next l.chunk l.bytes l.left l.go)
 
 abbrev pub decreases-loop-left : goal.decreases-loop-left
-decreases-loop-left l = left
+decreases-loop-left l = l.left

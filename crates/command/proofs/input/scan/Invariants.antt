@@ -7,7 +7,7 @@ use Rattle.command.proofs.Scan.{Scanning}
 use Rattle.command.proofs.input.scan.Given as goal
 
 abbrev pub invariant-loop-at : goal.invariant-loop-at
-invariant-loop-at l = (length l.bytes ≡ length l.initial.bytes) × Scanning (left_of (record { l.at = l.initial.at; l.end = l.end }) l.chunk) l.initial.held l.initial.bytes (left_of (record { l.at = l.at; l.end = l.end }) l.chunk) l.held l.bytes
+invariant-loop-at l = (length l.bytes ≡ length l.initial.bytes) × Scanning (left_of (record { at = l.initial.at; end = l.end }) l.chunk) l.initial.held l.initial.bytes (left_of (record { at = l.at; end = l.end }) l.chunk) l.held l.bytes
 
 abbrev pub decreases-loop-at : goal.decreases-loop-at
 decreases-loop-at l = l.end - l.at

@@ -3,4 +3,4 @@ use Rattle.command.proofs.Put.{then}
 use Rattle.command.proofs.printing.number_line.Goals as goal
 
 pub returns : goal.returns
-returns c = let p = c in let q = p in then _ _ _ _ _ q.put_number-end.ensures p.put.ensures
+returns c = then _ _ _ _ _ c.put_number-end.ensures c.put.ensures

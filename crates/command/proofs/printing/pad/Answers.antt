@@ -3,4 +3,4 @@ use mathlib.Core.Path.{◌∙◌}
 use Rattle.command.proofs.printing.pad.Goals as goal
 
 pub returns : goal.returns
-returns c = let p = c in let d = p in p.put_spaces.ensures ∙ rw (d.less-2.ensures, d.less.ensures)
+returns c = c.put_spaces.ensures ∙ rw (c.less-2.ensures, c.less.ensures)

@@ -11,7 +11,7 @@ pub loop-i-init : goal.loop-i-init
 loop-i-init c = let a = c.args in (search rules, refl, c.fitting-n.ensures, paste-zero a.out.now a.at a.bytes.now)
 
 pub loop-i-preserved : goal.loop-i-preserved
-loop-i-preserved c = let l = c in let a = l.args in (search rules, simp length-set (omega arith), l.loop-i.invariant.2, rw l.loop-i.invariant.3 (put_next a.out.now a.bytes.now a.at l.loop-i.i (omega arith) (omega arith)))
+loop-i-preserved c = let a = c.args in (search rules, simp length-set (omega arith), c.loop-i.invariant.2, rw c.loop-i.invariant.3 (put_next a.out.now a.bytes.now a.at c.loop-i.i (omega arith) (omega arith)))
 
 pub returns : goal.returns
-returns c = let l = c in let f = l in let a = f.args in let e : l.loop-i.i ≡ f.fitting-n.result = omega arith in (rw (l.loop-i.invariant.3, e)) ∙ added a.out.now a.bytes.now a.at f.fitting-n.result l.loop-i.invariant.2
+returns c = let a = c.args in let e : c.loop-i.i ≡ c.fitting-n.result = omega arith in (rw (c.loop-i.invariant.3, e)) ∙ added a.out.now a.bytes.now a.at c.fitting-n.result c.loop-i.invariant.2

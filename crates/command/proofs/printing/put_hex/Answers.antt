@@ -14,7 +14,7 @@ pub loop-i-init : goal.loop-i-init
 loop-i-init c = let a = c.args in (search rules, refl, hex-none (buffer_of a.out.now a.at) a.bytes.now)
 
 pub loop-i-preserved : goal.loop-i-preserved
-loop-i-preserved c = let p = c in let d = p in let l = d in let a = l.args in (search rules, search rules, hex-next (buffer_of a.out.now a.at) _ _ a.bytes.now l.loop-i.i (omega arith) (omega (arith, d.shared_slice_known-in-loop-i-1.given l.loop-i.i)) l.loop-i.invariant.2 (p.put-end.ensures ∙ ap (add _) (rw (d.hex_digit-in-loop-i.ensures, d.hex_digit.ensures))))
+loop-i-preserved c = let a = c.args in (search rules, search rules, hex-next (buffer_of a.out.now a.at) _ _ a.bytes.now c.loop-i.i (omega arith) (omega (arith, c.shared_slice_known-in-loop-i-1.given c.loop-i.i)) c.loop-i.invariant.2 (c.put-end.ensures ∙ ap (add _) (rw (c.hex_digit-in-loop-i.ensures, c.hex_digit.ensures))))
 
 pub returns : goal.returns
-returns c = let l = c in let a = l.args in let e : l.loop-i.i ≡ length a.bytes.now = omega arith in (rw e at l.loop-i.invariant.2) ∙ ap (λ (x : List ℕ). add (buffer_of a.out.now a.at) (hex x)) (take-length a.bytes.now)
+returns c = let a = c.args in let e : c.loop-i.i ≡ length a.bytes.now = omega arith in (rw e at c.loop-i.invariant.2) ∙ ap (λ (x : List ℕ). add (buffer_of a.out.now a.at) (hex x)) (take-length a.bytes.now)

@@ -7,6 +7,4 @@ use Rattle.command.proofs.printing.put_hundredths.Goals as goal
 pub returns : goal.returns
 unfolding hundredths
 returns c =
-    let p = c in
-    let d = p in
-    p.put.ensures ∙ rw (d.digit-2.ensures, d.digit.ensures, d.put_short-end.ensures, add-add)
+    c.put.ensures ∙ rw (c.digit-2.ensures, c.digit.ensures, c.put_short-end.ensures, add-add)

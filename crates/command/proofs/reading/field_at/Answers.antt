@@ -6,7 +6,7 @@ use Rattle.command.proofs.Fields.{number_small}
 use Rattle.command.proofs.reading.field_at.Goals as goal
 
 pub overflow_cast-result : goal.overflow_cast-result
-overflow_cast-result c = let n = c in let a = n.args in rw n.number_at-n.ensures (omega (arith, number_small 255 (drop a.at a.s.now)))
+overflow_cast-result c = let a = c.args in rw c.number_at-n.ensures (omega (arith, number_small 255 (drop a.at a.s.now)))
 
 pub returns : goal.returns
 unfolding field_at

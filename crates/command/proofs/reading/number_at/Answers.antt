@@ -4,4 +4,4 @@ use Rattle.command.proofs.reading.number_at.Goals as goal
 
 pub returns : goal.returns
 unfolding number_at
-returns c = let l = c in rw (c.number_of.ensures, l.byte-d.ensures, l.byte-c.ensures, l.byte-b.ensures, l.byte-a.ensures, l.byte-space.ensures)
+returns c = rw (c.number_of.ensures, c.byte-d.ensures, c.byte-c.ensures, c.byte-b.ensures, c.byte-a.ensures, c.byte-space.ensures)

@@ -8,13 +8,13 @@ pub loop-i-init : goal.loop-i-init
 loop-i-init c = (search rules, refl)
 
 pub returns-then-s-i : goal.returns-then-s-i
-returns-then-s-i c = let l = c in let a = l.args in sym (starts-short a.word.now a.s.now l.loop-i.i c.loop-i-test.true c.if-s-i.true) ∙ l.loop-i.invariant.1
+returns-then-s-i c = let a = c.args in sym (starts-short a.word.now a.s.now c.loop-i.i c.loop-i-test.true c.if-s-i.true) ∙ c.loop-i.invariant.1
 
 pub returns-then-s-i-2 : goal.returns-then-s-i-2
-returns-then-s-i-2 c = let l = c in let a = l.args in sym (starts-differ a.word.now a.s.now l.loop-i.i c.loop-i-test.true c.if-s-i.false c.if-s-i-2.true) ∙ l.loop-i.invariant.1
+returns-then-s-i-2 c = let a = c.args in sym (starts-differ a.word.now a.s.now c.loop-i.i c.loop-i-test.true c.if-s-i.false c.if-s-i-2.true) ∙ c.loop-i.invariant.1
 
 pub loop-i-preserved : goal.loop-i-preserved
-loop-i-preserved c = let l = c in let a = l.args in (search rules, sym (starts-next a.word.now a.s.now l.loop-i.i c.loop-i-test.true c.if-s-i.false c.if-s-i-2.false) ∙ l.loop-i.invariant.1)
+loop-i-preserved c = let a = c.args in (search rules, sym (starts-next a.word.now a.s.now c.loop-i.i c.loop-i-test.true c.if-s-i.false c.if-s-i-2.false) ∙ c.loop-i.invariant.1)
 
 pub returns : goal.returns
-returns c = let l = c in let a = l.args in sym (starts-all a.word.now a.s.now l.loop-i.i c.loop-i-test.false) ∙ l.loop-i.invariant.1
+returns c = let a = c.args in sym (starts-all a.word.now a.s.now c.loop-i.i c.loop-i-test.false) ∙ c.loop-i.invariant.1

@@ -6,38 +6,24 @@ use Rattle.command.proofs.request.short.Goals as goal
 pub returns-then-starts : goal.returns-then-starts
 unfolding short_line
 returns-then-starts c =
-    let t = c in
-    (record { by_index = (λ b. rw (← t.starts.ensures, c.if-starts.true) (c.turn.ensures.by_index b)); result_value = c.turn.ensures.result_value })
+    (record { by_index = (λ b. rw (← c.starts.ensures, c.if-starts.true) (c.turn.ensures.by_index b)); result_value = c.turn.ensures.result_value })
 
 pub returns-then-is_word : goal.returns-then-is_word
 unfolding short_line
 returns-then-is_word c =
-    let v = c in
-    let t = v in
-    (record { by_index = (λ b. rw (← t.starts.ensures, v.if-starts.false, ← v.is_word.ensures, c.if-is_word.true)); result_value = refl })
+    (record { by_index = (λ b. rw (← c.starts.ensures, c.if-starts.false, ← c.is_word.ensures, c.if-is_word.true)); result_value = refl })
 
 pub returns-then-is_word-2 : goal.returns-then-is_word-2
 unfolding short_line
 returns-then-is_word-2 c =
-    let w = c in
-    let v = w in
-    let t = v in
-    (record { by_index = (λ b. rw (← t.starts.ensures, v.if-starts.false, ← v.is_word.ensures, w.if-is_word.false, ← w.is_word-2.ensures, c.if-is_word-2.true)); result_value = refl })
+    (record { by_index = (λ b. rw (← c.starts.ensures, c.if-starts.false, ← c.is_word.ensures, c.if-is_word.false, ← c.is_word-2.ensures, c.if-is_word-2.true)); result_value = refl })
 
 pub returns-then-is_word-3 : goal.returns-then-is_word-3
 unfolding short_line
 returns-then-is_word-3 c =
-    let x = c in
-    let w = x in
-    let v = w in
-    let t = v in
-    (record { by_index = (λ b. rw (← t.starts.ensures, v.if-starts.false, ← v.is_word.ensures, w.if-is_word.false, ← w.is_word-2.ensures, x.if-is_word-2.false, ← x.is_word-3.ensures, c.if-is_word-3.true)); result_value = refl })
+    (record { by_index = (λ b. rw (← c.starts.ensures, c.if-starts.false, ← c.is_word.ensures, c.if-is_word.false, ← c.is_word-2.ensures, c.if-is_word-2.false, ← c.is_word-3.ensures, c.if-is_word-3.true)); result_value = refl })
 
 pub returns : goal.returns
 unfolding short_line
 returns c =
-    let x = c in
-    let w = x in
-    let v = w in
-    let t = v in
-    (record { by_index = (λ b. rw (← t.starts.ensures, v.if-starts.false, ← v.is_word.ensures, w.if-is_word.false, ← w.is_word-2.ensures, x.if-is_word-2.false, ← x.is_word-3.ensures, c.if-is_word-3.false, c.command_of.ensures)); result_value = refl })
+    (record { by_index = (λ b. rw (← c.starts.ensures, c.if-starts.false, ← c.is_word.ensures, c.if-is_word.false, ← c.is_word-2.ensures, c.if-is_word-2.false, ← c.is_word-3.ensures, c.if-is_word-3.false, c.command_of.ensures)); result_value = refl })

@@ -7,15 +7,13 @@ use Rattle.command.proofs.request.turns.Goals as goal
 pub returns-then-processors : goal.returns-then-processors
 unfolding turns_from
 returns-then-processors c =
-    let f = c in
-    let a = f.args in
-    let r = turns-read a.s.now a.numbers.now f.fields_at-processors.new.1.1.0 f.fields_at-processors.result f.fields_at-processors.ensures.value f.fields_at-processors.ensures.numbers_after in
-    (rw c.if-processors.true at r.read, (r.buffer, r.few))
+    let a = c.args in
+    let r = turns-read a.s.now a.numbers.now c.fields_at-processors.new.numbers c.fields_at-processors.result c.fields_at-processors.ensures.value c.fields_at-processors.ensures.numbers_after in
+    record { numbers_after = rw c.if-processors.true at r.read; numbers_after_2 = r.buffer; result_bound = r.few }
 
 pub returns : goal.returns
 unfolding turns_from
 returns c =
-    let f = c in
-    let a = f.args in
-    let r = turns-read a.s.now a.numbers.now f.fields_at-processors.new.1.1.0 f.fields_at-processors.result f.fields_at-processors.ensures.value f.fields_at-processors.ensures.numbers_after in
-    (rw c.if-processors.false at r.read, (r.buffer, omega arith))
+    let a = c.args in
+    let r = turns-read a.s.now a.numbers.now c.fields_at-processors.new.numbers c.fields_at-processors.result c.fields_at-processors.ensures.value c.fields_at-processors.ensures.numbers_after in
+    record { numbers_after = rw c.if-processors.false at r.read; numbers_after_2 = r.buffer; result_bound = omega arith }

@@ -11,4 +11,4 @@ pub slice_bounds-command_of-end : goal.slice_bounds-command_of-end
 slice_bounds-command_of-end c = sym (length-take-le _ _ c.if-bytes-len.false)
 
 pub returns : goal.returns
-returns c = let i = c in rw (i.if-long.false, le-ltb _ _ i.if-bytes-len.false) c.command_of.ensures
+returns c = rw (c.if-long.false, le-ltb _ _ c.if-bytes-len.false) c.command_of.ensures
