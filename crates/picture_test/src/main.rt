@@ -1,12 +1,14 @@
 // Pictures from standard input, one a line in hexadecimal digits: what writing, turns ahead and reading get of each.
 #![tactic(auto)]
+
 mod line;
 mod print;
 mod reading;
 mod writing;
 
-use libc::STDIN_FILENO;
 use print::{hex, word};
+
+const STDIN: i32 = 0;
 
 // The bytes, and what comes of the state that they show.
 fn show(bytes: &[u8]) {
@@ -47,6 +49,6 @@ fn feed_all(line: &mut [u8], input: &[u8]) {
 fn main() {
     let mut input = io::large_buffer();
     let mut line = [0u8; 297];
-    let n = io::read_full(STDIN_FILENO, &mut input);
+    let n = io::read_full(STDIN, &mut input);
     feed_all(&mut line, &input[..n]);
 }

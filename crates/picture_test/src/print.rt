@@ -1,17 +1,18 @@
 // What the program writes: words, numbers, bytes in hexadecimal digits.
-use libc::STDOUT_FILENO;
+
+const STDOUT: i32 = 1;
 
 pub(crate) fn word(bytes: &[u8]) {
-    io::write_all(STDOUT_FILENO, bytes);
+    io::write_all(STDOUT, bytes);
 }
 
 pub(crate) fn number(n: u8) {
-    io::print_decimal(STDOUT_FILENO, n as u64);
+    io::print_decimal(STDOUT, n as u64);
 }
 
 // Two digits.
 fn byte(b: u8) {
-    io::print_hex(STDOUT_FILENO, b as u64, 2);
+    io::print_hex(STDOUT, b as u64, 2);
 }
 
 pub(crate) fn hex(bytes: &[u8]) {

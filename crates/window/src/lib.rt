@@ -1,5 +1,6 @@
 // The course window's entry: the caller keeps one session record for the whole sitting and lends it to each call.
 #![tactic(auto)]
+
 ghost use Rattle.std.specs.Prelude.{◌≡◌};
 ghost use Rattle.reference.specs.Step.{move_of};
 ghost use Rattle.session.specs.Contract.{moved, journal_after, went};

@@ -1,16 +1,20 @@
 // Lends one record to the calls of a script: prints what each answers, and at the end the session's picture, B and the number kept.
 // A call is three characters and a line feed: a move's digits, or g and two digits of the step to go to.
 #![tactic(auto)]
+
 mod lend;
 
 use lend::{lend_goto, lend_move};
-use libc::{STDIN_FILENO, STDOUT_FILENO};
 use state::Session;
 use state::layout::{Width, picture_bytes};
 
+const STDIN: i32 = 0;
+
+const STDOUT: i32 = 1;
+
 fn number(n: u64, after: &[u8]) {
-    io::print_decimal(STDOUT_FILENO, n);
-    io::write_all(STDOUT_FILENO, after);
+    io::print_decimal(STDOUT, n);
+    io::write_all(STDOUT, after);
 }
 
 fn print_move(session: Session, journal: &mut [u8], p: u8, a: u8, o: u8) -> Session {
@@ -46,7 +50,7 @@ fn call(session: Session, journal: &mut [u8], p: u8, a: u8, o: u8) -> Session {
 
 // Two lower-case hexadecimal digits.
 fn pair(b: u8) {
-    io::print_hex(STDOUT_FILENO, b as u64, 2);
+    io::print_hex(STDOUT, b as u64, 2);
 }
 
 fn hex(bytes: &[u8]) {
@@ -62,7 +66,7 @@ fn show(session: Session) {
     let n = io::count(picture_bytes(state.p, state.t, state.m) as isize, &bytes);
     number(refusal as u64, b" ");
     hex(&bytes[..n]);
-    io::write_all(STDOUT_FILENO, b" ");
+    io::write_all(STDOUT, b" ");
     number(session.initial as u64, b" ");
     number(session.kept as u64, b"\n");
 }
@@ -80,6 +84,6 @@ fn run(script: &[u8], journal: &mut [u8]) {
 fn main() {
     let mut script = io::buffer();
     let mut journal = [0u8; 12000];
-    let n = io::read_full(STDIN_FILENO, &mut script);
+    let n = io::read_full(STDIN, &mut script);
     run(&script[..n], &mut journal);
 }

@@ -1,2 +1,0 @@
--- What the two walks share.
-pub mod Lent

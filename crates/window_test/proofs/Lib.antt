@@ -1,2 +1,0 @@
--- What the two lenders' walks share.
-pub mod Record
