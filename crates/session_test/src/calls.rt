@@ -1,26 +1,27 @@
 // The commands of the script, over the session's entry points.
 use crate::fields::{same, with_field};
 use crate::line::Line;
-use libc::STDOUT_FILENO;
 use picture::answer::Ahead;
 use session::{Answer, MoveAnswer};
 use state::queues::get;
 use state::{Session, State};
 use touch::Touch;
 
+const STDOUT: i32 = 1;
+
 fn text(bytes: &[u8]) {
-    io::write_all(STDOUT_FILENO, bytes);
+    io::write_all(STDOUT, bytes);
 }
 
 // A number and what stands after it.
 pub(crate) fn number(n: u64, after: &[u8]) {
-    io::print_decimal(STDOUT_FILENO, n);
-    io::write_all(STDOUT_FILENO, after);
+    io::print_decimal(STDOUT, n);
+    io::write_all(STDOUT, after);
 }
 
 // Two lower-case hexadecimal digits.
 fn pair(b: u8) {
-    io::print_hex(STDOUT_FILENO, b as u64, 2);
+    io::print_hex(STDOUT, b as u64, 2);
 }
 
 fn hex(bytes: &[u8]) {

@@ -5,10 +5,11 @@ mod fields;
 mod line;
 mod scripted;
 
-use libc::STDIN_FILENO;
 use line::Line;
 use scripted::{Lent, of_scripts};
 use state::Session;
+
+const STDIN: i32 = 0;
 
 // The line is executed where the byte is a line feed.
 fn session_after(
@@ -79,7 +80,7 @@ fn run(
 // Both journals have a byte more than is needed, and the script has room.
 fn main() {
     let mut script = [0u8; 393216];
-    let n = io::read_full(STDIN_FILENO, &mut script);
+    let n = io::read_full(STDIN, &mut script);
     let mut journal = [0u8; 12001];
     let mut kept = [0u8; 12001];
     let mut scripts = [0u8; 420];
