@@ -1,5 +1,6 @@
 // The moves of a session as a chart that a person reads: a column for each processor, a row for each move that stands.
 #![tactic(auto)]
+
 mod row;
 
 ghost use Rattle.std.specs.Prelude.{◌≡◌};

@@ -1,5 +1,6 @@
 // Reads lines from standard input to its end and responds to each.
 #![tactic(auto)]
+
 mod answers;
 mod class;
 mod help;
