@@ -1,5 +1,6 @@
 // Runs a script of session calls from standard input. What the calls answer, with the record and the journal compared before and after each, is held to what the independent implementation of tests/independent answers.
 #![tactic(auto)]
+
 mod calls;
 mod fields;
 mod line;
