@@ -25,7 +25,7 @@ loop-left-preserved c =
     let t = c in
     let i = t in
     let l = i in
-    (search rules, search rules, search rules, t.turn-s.auto.chunk ∙ l.loop-left.invariant.3, t.turn-s.auto.bytes ∙ l.loop-left.invariant.4, search rules, turn-taken course _ _ _ _ _ _ _ _ _ _ t.turn-s.result.ended t.turn-s.result.ok l.loop-left.invariant.6 i.if-go.true i.loop-left-test.true t.turn-s.ensures)
+    (search rules, search rules, search rules, t.turn-s.auto.bytes ∙ l.loop-left.invariant.3, t.turn-s.auto.numbers ∙ l.loop-left.invariant.4, search rules, turn-taken course _ _ _ _ _ _ _ _ _ _ t.turn-s.result.ended t.turn-s.result.ok l.loop-left.invariant.6 i.if-go.true i.loop-left-test.true t.turn-s.ensures)
 
 pub returns-else-go : goal.returns-else-go
 returns-else-go c = run-over course _ _ _ _ _ _ c.loop-left.invariant.6 (inl c.if-go.false)
