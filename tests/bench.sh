@@ -7,5 +7,5 @@ cd "$(dirname "${BASH_SOURCE[0]}")/.."
 command -v rt >/dev/null || PATH="$PATH:/opt/rattle/bin"
 export CARGO_TARGET_DIR="$PWD/target/cargo" HUMDAYEG_LIB="$PWD/target/staticlib"
 mkdir -p target/tests
-rt staticlib exports >target/tests/bench-archive.log 2>&1 || { tail -n 20 target/tests/bench-archive.log; exit 1; }
+tests/build.sh exports >target/tests/bench-archive.log 2>&1 || { tail -n 20 target/tests/bench-archive.log; exit 1; }
 exec cargo run --quiet --release --offline --locked --manifest-path tests/differential/Cargo.toml --bin bench

@@ -47,14 +47,14 @@ compile_c() { # NAME
     gcc -std=c99 -O2 -Wall -Wextra -Werror -pedantic -Iinclude "tests/c/$1.c" "$HUMDAYEG_LIB/libexports.a" -o "$logs/$1"
 }
 
-if run archive rt staticlib exports; then
+if run archive tests/build.sh exports; then
     for name in check marks words independent sitting; do
         if run "c-$name-compile" compile_c "$name"; then run "c-$name" "$logs/$name"; fi
     done
     run differential cargo test --release --offline --locked --manifest-path tests/differential/Cargo.toml
 fi
 run independent cargo test --release --offline --locked --manifest-path tests/independent/Cargo.toml
-if run programs rt check stepper course; then
+if run programs tests/build.sh stepper course; then
     run stepper-sessions sh tests/check_sessions.sh target/bin/stepper tests/vectors/sessions
     run course-sessions sh tests/check_sessions.sh target/bin/course tests/vectors/course
     # Course answers the stepper's lines alike, but for the words that it names behind an accepted move.
