@@ -1,7 +1,7 @@
 /*
  * Humdayeg: the proved stepping machine, for C and for whatever calls C.
  *
- * Link with libexports.a, which `rt staticlib exports` writes below target/staticlib.
+ * Link with libexports.a, which `tests/build.sh exports` writes below target/staticlib.
  * The functions keep no state, allocate nothing and call nothing; calls on different
  * memory may run at the same time. A session is kept by its caller, as bytes.
  *
