@@ -1,5 +1,6 @@
 -- The record, and which reference state it shows.
 pub mod Record
+pub mod Refusal
 pub mod Association
 pub mod Rules
 pub mod Allowed
