@@ -77,7 +77,11 @@ impl Sizes {
         ensures { result ≡ next_ok self.t x }
     {
         let queued = (x.status == 1) | (x.status == 2);
-        if queued { x.next <= self.t } else { x.next == 0 }
+        if queued {
+            x.next <= self.t
+        } else {
+            x.next == 0
+        }
     }
 
     #[tactic(auto, unfolding(state::specs::Rules::thread_ok))]
@@ -131,7 +135,11 @@ pub fn fields_ok(s: State) -> bool
         & (s.stealing <= 1)
         & (s.applied <= 4000)
         & each(0, 17, |q| sizes.first_ok(q, at(&firsts, q as usize)))
-        & each(1, s.p, |i| sizes.processor_ok(at(&s.processors, i as usize)))
+        & each(
+            1,
+            s.p,
+            |i| sizes.processor_ok(at(&s.processors, i as usize)),
+        )
         & each(1, s.m, |i| sizes.mutex_ok(at(&s.mutexes, i as usize)))
         & each(1, s.t, |k| sizes.thread_ok(at(&threads, k as usize)))
 }

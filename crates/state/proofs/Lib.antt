@@ -10,4 +10,4 @@ pub mod Table
 pub mod Started
 pub mod Bytes
 pub mod Refusals
-mod Tables
+pub mod Tables
