@@ -13,7 +13,8 @@ use state::queues::queued_in;
 use state::range::{each, in_range};
 
 // The threads met so far, bit k for thread k; whether the walk ended at a thread met already, and whether at one not placed in its queue.
-#[derive(Clone, Copy)]
+// kept: three fields and no Result, since `OneAnswer` and `OneNumber` of specs/Walk.antt are stated of them, and both tests may fail at one thread.
+#[derive(Clone, Copy, Debug, PartialEq, Eq)]
 pub(crate) struct Walked {
     pub met: u64,
     pub twice: bool,
