@@ -1,5 +1,4 @@
 -- Laws behind the rules' code.
-pub mod Past
 pub mod Table
 pub mod Logic
 pub mod Members

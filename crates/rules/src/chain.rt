@@ -7,12 +7,14 @@ ghost use Rattle.rules.specs.Model.Bytes.{thread_in_bytes};
 ghost use Rattle.rules.specs.Model.Chain.{with_bit, queued, none_missed, record_bytes};
 
 use state::Thread;
-use state::chain::first_at;
+use state::access::{Zero, at};
 use state::layout::Width;
-use state::queues::{get, queued_in};
+use state::queues::queued_in;
+use state::range::{each, in_range};
 
 // The threads met so far, bit k for thread k; whether the walk ended at a thread met already, and whether at one not placed in its queue.
-#[derive(Clone, Copy)]
+// kept: three fields and no Result, since `OneAnswer` and `OneNumber` of specs/Walk.antt are stated of them, and both tests may fail at one thread.
+#[derive(Clone, Copy, Debug, PartialEq, Eq)]
 pub(crate) struct Walked {
     pub met: u64,
     pub twice: bool,
@@ -36,20 +38,15 @@ pub(crate) fn with_bit(met: u64, k: u8) -> u64
 pub(crate) fn thread_in_bytes(threads: &[u8], k: u8) -> Thread
     ensures { result ≡ thread_in_bytes threads.now k }
 {
-    let there = (1 <= k) & (k <= 32);
-    if there {
-        let at = Width::THREAD * ((k as usize) - 1);
+    if in_range(1, 32, k) {
+        let i = Width::THREAD * ((k as usize) - 1);
         Thread {
-            status: get(threads, at),
-            holder: get(threads, at + 1),
-            next: get(threads, at + 2),
+            status: at(threads, i),
+            holder: at(threads, i + 1),
+            next: at(threads, i + 2),
         }
     } else {
-        Thread {
-            status: 0,
-            holder: 0,
-            next: 0,
-        }
+        Thread::zero()
     }
 }
 
@@ -66,11 +63,13 @@ pub(crate) fn walk(threads: &[u8], q: u8, first: u8, most: u8, before: u64) -> W
     ensures { RepresentsAlong (thread_in_bytes threads.now) q most first before result }
 {
     let mut met = before;
-    let mut at = first;
-    let mut left = most;
-    while (0 < left) & (at != 0) {
-        let x = thread_in_bytes(threads, at);
-        let twice = has_bit(met, at);
+    let mut k = first;
+    for _ in 0..most {
+        if k == 0 {
+            break;
+        }
+        let x = thread_in_bytes(threads, k);
+        let twice = has_bit(met, k);
         let misplaced = !placed_in(x, q);
         if twice | misplaced {
             return Walked {
@@ -79,9 +78,8 @@ pub(crate) fn walk(threads: &[u8], q: u8, first: u8, most: u8, before: u64) -> W
                 misplaced,
             };
         }
-        met = with_bit(met, at);
-        at = x.next;
-        left -= 1;
+        met = with_bit(met, k);
+        k = x.next;
     }
     Walked {
         met,
@@ -96,16 +94,14 @@ pub(crate) fn walk_to(threads: &[u8], firsts: [u8; 17], last: u8, most: u8) -> W
     ensures { Represents (walk_to (thread_in_bytes threads.now) (λ q. get_or firsts q 0) last most) result }
 {
     let mut met: u64 = 0;
-    let mut q: u8 = 0;
-    while q < last {
-        let w = walk(threads, q, first_at(firsts, q), 33, met);
+    for q in 0..last {
+        let w = walk(threads, q, at(&firsts, q as usize), 33, met);
         if w.twice | w.misplaced {
             return w;
         }
         met = w.met;
-        q += 1;
     }
-    walk(threads, last, first_at(firsts, last), most, met)
+    walk(threads, last, at(&firsts, last as usize), most, met)
 }
 
 // The thread is placed in one of the queues.
@@ -119,13 +115,9 @@ pub(crate) fn queued(x: Thread) -> bool
 pub(crate) fn none_missed(threads: &[u8], met: u64, t: u8) -> bool
     ensures { result ≡ none_missed (thread_in_bytes threads.now) met t }
 {
-    let mut ok = true;
-    let mut k: u8 = 0;
-    while k < t {
-        k += 1;
-        ok = ok & (!queued(thread_in_bytes(threads, k)) | has_bit(met, k));
-    }
-    ok
+    each(1, t, |k| {
+        !queued(thread_in_bytes(threads, k)) | has_bit(met, k)
+    })
 }
 
 // Rule 13 over the thread records' bytes: no chain meets a thread twice or one not placed there, and none placed there is missed.
@@ -141,14 +133,12 @@ pub(crate) fn record_bytes(threads: [Thread; 33]) -> [u8; 128]
     ensures { result ≡ record_bytes threads 32 }
 {
     let mut bytes = [0u8; 128];
-    let mut k: usize = 0;
-    while k < 32 {
+    for k in 0..32usize {
         let x = threads[k + 1];
-        let at = Width::THREAD * k;
-        bytes[at] = x.status;
-        bytes[at + 1] = x.holder;
-        bytes[at + 2] = x.next;
-        k += 1;
+        let i = Width::THREAD * k;
+        bytes[i] = x.status;
+        bytes[i + 1] = x.holder;
+        bytes[i + 2] = x.next;
     }
     bytes
 }

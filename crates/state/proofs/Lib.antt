@@ -10,4 +10,5 @@ pub mod Sized
 pub mod Table
 pub mod Started
 pub mod Bytes
-mod Tables
+pub mod Refusals
+pub mod Tables

@@ -1,21 +1,20 @@
 -- `rules::chain::thread_in_bytes` meets its contract: the three bytes of a thread.
 -- Assumes nothing.
-use Prim.Native.Nat.{◌≤◌}
 use native.Mathlib.Omega.{arith}
-use borrow.Author.Tests.{leb-true}
-use Rattle.reference.proofs.Tests.{both_left}
+use mathlib.Core.Path.{sym, ◌∙◌}
+use Rattle.reference.proofs.Tests.{range_true}
 use Rattle.rules.specs.Model.Bytes.{thread_in_bytes}
 use Rattle.rules.proofs.chain.thread_in_bytes.Goals as goal
 
-pub overflow_sub-at : goal.overflow_sub-at
-overflow_sub-at c =
-    let h : 1 ≤ c.args.k = leb-true 1 _ (both_left _ _ c.if-there.true) in
+pub overflow_sub-i : goal.overflow_sub-i
+overflow_sub-i c =
+    let h = range_true 1 32 c.args.k (sym c.in_range.ensures ∙ c.if-in_range.true) in
     omega arith
 
-pub returns-then-there : goal.returns-then-there
+pub returns-then-in_range : goal.returns-then-in_range
 unfolding thread_in_bytes
-returns-then-there c = rw (c.if-there.true, c.get.ensures, c.get-then-there.ensures, c.get-then-there-2.ensures)
+returns-then-in_range c = rw (← c.in_range.ensures, c.if-in_range.true, c.at.ensures, c.at-then-in_range.ensures, c.at-then-in_range-2.ensures)
 
-pub returns-else-there : goal.returns-else-there
+pub returns-else-in_range : goal.returns-else-in_range
 unfolding thread_in_bytes
-returns-else-there c = rw c.if-there.false
+returns-else-in_range c = rw (← c.in_range.ensures, c.if-in_range.false) c.zero.ensures

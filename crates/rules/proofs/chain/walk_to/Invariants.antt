@@ -1,6 +1,6 @@
 -- `rules::chain::walk_to` meets its contract: after q turns, the walk of all queues before q.
 -- Assumes nothing.
-use Prim.Native.Nat.{ℕ, ◌≤◌, ◌-◌}
+use Prim.Native.Nat.{ℕ}
 use mathlib.Core.Bool.{false}
 use mathlib.Core.Path.{◌≡◌}
 use lib.ListN.{get_or}
@@ -11,7 +11,4 @@ use Rattle.rules.proofs.chain.walk_to.Given as goal
 abbrev pub invariant-loop-q : goal.invariant-loop-q
 invariant-loop-q l =
     let w = walk_before (thread_in_bytes l.threads) (λ (j : ℕ). get_or l.firsts j 0) l.q in
-    (l.q ≤ l.last) × (ended w ≡ false) × Bits l.met w.met
-
-abbrev pub decreases-loop-q : goal.decreases-loop-q
-decreases-loop-q l = l.last - l.q
+    (ended w ≡ false) × Bits l.met w.met
