@@ -15,7 +15,7 @@ use Rattle.reference.specs.Start.{Config, start}
 use Rattle.reference.specs.Step.{Move, run}
 use Rattle.reference.specs.Cause.{cause, accepted}
 use Rattle.reference.specs.Lists.{choose}
-use Rattle.reference.specs.Touch.{nothing, touched, last_touch}
+use Rattle.reference.specs.Touch.{nothing, touch, touched, last_touch}
 use Rattle.reference.specs.Session.{moves}
 use Rattle.reference.proofs.Moves.{last_snoc, accepted-last}
 use Rattle.touch.specs.Association.{touch_record}
@@ -83,9 +83,12 @@ module _ (r : Session) (j : List ℕ) where
     pub last_some : (w : Touch) → w ≡ touch_record (touch_of s (get_or j (3 * n) 0) (get_or j (3 * n + 1) 0) (get_or j (3 * n + 2) 0)) → w ≡ last_touched r j
     unfolding last_touched touched
     last_some w w-is =
+        let legal_move : eqb (cause (run (start c) (moves n j)) a) 0 ≡ true = eq-eqb _ 0 legal.1 in
+        let said : touch (run (start c) (moves n j)) a ≡ last_touch (start c) (standing r j) =
+            sym (ap (λ (b : Bool). choose b (touch (run (start c) (moves n j)) a) nothing) legal_move) ∙
+            sym (ap (last_touch (start c)) all-is ∙ last_snoc (moves n j) (start c) a) in
         w-is ∙
         ap touch_record
         (ap (λ (x : Record). touch_of x a.processor a.action a.operand) state-is ∙
-        touch-shows (run (start c) (moves n j)) (reached-allowed c t.config (moves n j) legal.0) a legal.1) ∙
-        rw (eq-eqb (cause (run (start c) (moves n j)) a) 0 legal.1, eq-eqb (test_refusal r j) 0 tested)
-        (ap touch_record (sym (ap (last_touch (start c)) all-is ∙ last_snoc (moves n j) (start c) a)))
+        touch-shows (run (start c) (moves n j)) (reached-allowed c t.config (moves n j) legal.0) a legal.1 ∙ said) ∙
+        rw (eq-eqb (test_refusal r j) 0 tested)
