@@ -11,6 +11,7 @@ use borrow.Author.Tests.{lt-ltb, le-ltb, ltb-false, eqb-true, eq-eqb, ne_eqb, no
 use Rattle.state.specs.declared.State.{State as Record}
 use Rattle.state.specs.declared.Session.{Session}
 use Rattle.state.specs.declared.refusal.Refusal.{Refusal}
+use Rattle.state.specs.declared.refusal.Refusal.TheVariants.{BadConfig}
 use Rattle.state.specs.Refusal.{number}
 use Rattle.state.proofs.Refused.{numbered, not_none}
 use Rattle.session.specs.declared.Moved.{Moved}
@@ -43,15 +44,15 @@ use Rattle.session.proofs.Standing.{sets-written}
 abbrev ranges_ok : Config → Bool
 ranges_ok c = in_range 1 8 c.P && in_range 1 32 c.T && in_range 1 8 c.M && in_range 1 c.T c.B && leb c.stealing 1
 
-pub started_taken : (c : Config) → ranges_ok c ≡ true →
-    record { refusal = 0; session = record { state = start_record c.P c.T c.M c.B c.stealing; initial = c.B; kept = 0 } } ≡ started c
-unfolding started config_cause
-started_taken c e =
+pub started_taken : (c : Config) → ranges_ok c ≡ true → (s : Record) → s ≡ start_record c.P c.T c.M c.B c.stealing →
+    answer_of zero_session (Ok (record { state = s; initial = c.B; kept = 0 })) ≡ started c
+unfolding started config_cause answer_of
+started_taken c e s is =
     let n : config_cause c ≡ 0 = rw e in
-    rw (e, start-shown c n)
+    rw (e, is, start-shown c n)
 
-pub started_refused : (c : Config) → ranges_ok c ≡ false → record { refusal = 1; session = zero_session } ≡ started c
-unfolding started config_cause
+pub started_refused : (c : Config) → ranges_ok c ≡ false → answer_of zero_session (Err BadConfig) ≡ started c
+unfolding started config_cause answer_of number
 started_refused c e = rw e
 
 -- no number is given: neither cause is there
@@ -159,18 +160,21 @@ module _ (r : Session) (j : List ℕ) (a : Move) where
         by false e = refl
 
     -- the code's answer
+    abbrev by_made : Made → MoveAnswer
+    by_made y = record { refusal = y.refusal; session = continued r y.state; touch = y.touch }
+
     pub made_accepted : (m : code.Made) → made_shown r.state (Ok m) ≡ made → (x : Moved) → x ≡ record { session = continued r m.state; touch = m.touch } →
         (move_answer_of r (Ok x) ≡ moved r j a) × (stored j r.state.applied a ≡ journal_after r j a)
     unfolding made_shown move_answer_of
     made_accepted m is x x-is =
-        (rw (x-is, ap (λ (y : Made). record { refusal = y.refusal; session = continued r y.state; touch = y.touch }) is) made_answer,
-         rw (← is) at made_journal)
+        (rw x-is (ap by_made is ∙ made_answer), ap (λ (y : Made). choose (eqb y.refusal 0) (stored j r.state.applied a) j) is ∙ made_journal)
 
     pub made_refused : (e : Refusal) → made_shown r.state (Err e) ≡ made → (move_answer_of r (Err e) ≡ moved r j a) × (j ≡ journal_after r j a)
     unfolding made_shown move_answer_of
     made_refused e is =
-        (ap (λ (s : Session). record { refusal = number e; session = s; touch = touch_record nothing }) (sym (continued_same r)) ∙
-         ap (λ (y : Made). record { refusal = y.refusal; session = continued r y.state; touch = y.touch }) is ∙ made_answer,
+        let answer : Session → MoveAnswer = λ (s : Session). record { refusal = number e; session = s; touch = touch_record nothing } in
+        (ap answer (sym (continued_same r)) ∙
+         ap by_made is ∙ made_answer,
          sym (ap (λ (b : Bool). choose b (stored j r.state.applied a) j) (numbered e)) ∙
          ap (λ (y : Made). choose (eqb y.refusal 0) (stored j r.state.applied a) j) is ∙ made_journal)
 

@@ -35,7 +35,7 @@ fn config_ok(p: u8, t: u8, m: u8, b: u8, stealing: u8) -> bool
 }
 
 // Begins a session: P processors, T threads, M mutexes, B threads created at first; stealing 0 for a single ready queue, 1 for one for each processor.
-#[tactic(auto, using(crate::proofs::Answers::started_taken, crate::proofs::Answers::started_refused), unfolding(crate::specs::Contract::answer_of, state::specs::Refusal::number))]
+#[tactic(auto, using(crate::proofs::Answers::started_taken, crate::proofs::Answers::started_refused))]
 pub fn start(p: u8, t: u8, m: u8, b: u8, stealing: u8) -> Result<Session, Refusal>
     ensures { answer_of zero_session result ≡ started (table p t m b stealing) }
 {

@@ -14,7 +14,7 @@ unfolding answer_of went
 returns-in-Ok c =
     let gone = c.in-Ok.ensures in
     last_some _ _ c.if-n-eq0.false (sym (ap (λ (x : Answer). x.refusal) gone)) _ (ap (λ (x : Answer). x.session.state) gone) _
-    (rw (← c.at-3.ensures, ← c.at-2.ensures, ← c.at.ensures) c.touched.ensures)
+    (rw (← c.at-in-Ok-2.ensures, ← c.at-in-Ok.ensures, ← c.at.ensures) c.touched.ensures)
 
 pub returns-in-Err : goal.returns-in-Err
 unfolding answer_of went
