@@ -5,6 +5,6 @@ pub mod Members
 pub mod Bits
 pub mod Walks
 pub mod Chains
-pub mod Laid
+pub mod Placed
 pub mod Firsts
 pub mod Wrong
