@@ -10,3 +10,4 @@ pub mod Table
 pub mod Started
 pub mod Bytes
 pub mod Tables
+pub mod Refused

@@ -65,7 +65,7 @@ pub returns-in-8 : goal.returns-in-8
 returns-in-8 c = arm _ _ 8 c.in-8.is _ _ _ c.writes-in-8.ensures c.l8.ensures refl
 
 pub returns-in-9 : goal.returns-in-9
-returns-in-9 c = arm _ _ 9 c.in-9.is _ _ _ c.writes-in-9.ensures c.l9.ensures c.is_empty.ensures
+returns-in-9 c = arm _ _ 9 c.in-9.is _ _ _ c.writes-in-9.ensures c.l9.ensures c.is_none.ensures
 
 pub returns-in-10 : goal.returns-in-10
 returns-in-10 c = arm _ _ 10 c.in-10.is _ _ _ c.keeps-in-10.ensures c.l10.ensures refl
