@@ -3,6 +3,7 @@ pub mod Branch
 pub mod Begun
 pub mod Numbers
 pub mod Past
+pub mod Refused
 pub mod Joining
 pub mod Fill
 pub mod Sized
@@ -10,4 +11,3 @@ pub mod Table
 pub mod Started
 pub mod Bytes
 pub mod Tables
-pub mod Refused
