@@ -2,7 +2,7 @@
 -- Assumes nothing.
 use Prim.Native.Nat.{ℕ, zero, suc, ◌+◌, ◌-◌, ◌*◌, ◌/◌, ◌<◌}
 use mathlib.Core.Bool.{Bool, true, false, not, ◌&&◌, ◌||◌, or-true, true≢false}
-use mathlib.Core.List.{List, [], ◌∷◌}
+use mathlib.Core.List.{List}
 use mathlib.Core.Logic.{◌⊎◌, inl, inr}
 use mathlib.Core.Path.{◌≡◌, refl, sym, ap, ◌∙◌}
 use native.Mathlib.Omega.{arith}
@@ -13,12 +13,15 @@ use borrow.Author.Tests.{eq-eqb, ne_eqb, le-leb, lt-leb, leb-false, eqb-true, eq
 use Rattle.reference.specs.Lists.{choose, in_range}
 use Rattle.reference.specs.Refusal.{refuse}
 use Rattle.reference.specs.Cause.{Facts}
+use Rattle.state.specs.declared.Chains.{Chains}
+use Rattle.state.specs.declared.Processor.{Processor}
+use Rattle.state.specs.declared.Mutex.{Mutex}
 use Rattle.state.specs.declared.State.{State}
 use Rattle.state.specs.Record.{zero_mutex, processor_of, thread_of}
 use Rattle.step.specs.declared.View.{View}
 use Rattle.step.specs.declared.Effect.{Effect}
 use Rattle.step.specs.declared.Sizes.{Sizes}
-use Rattle.step.specs.Model.Moves.{Run, Moved, Decision, target_of, put_effect, act_effect, up_to, owns_none, facts_of, move_view, cause_of, cause_seen, tried, step_breaks_of, refusal_of, stepped_of, moved_of, moved_at, sizes_of, act_outcome, refusal_seen, decision, ran, run_from, run_of, noted, noted_at, counted_from, counted_of}
+use Rattle.step.specs.Model.Moves.{Run, Moved, Decision, target_of, put_effect, carried, act_effect, up_to, owns_none, facts_of, move_view, cause_of, cause_seen, tried, step_breaks_of, refusal_of, stepped_of, moved_of, moved_at, sizes_of, act_outcome, refusal_seen, decision, ran, run_from, run_of, noted, noted_at, counted_from, counted_of}
 use Rattle.step.proofs.Keeps.{keeps}
 
 -- ---- why it is refused
@@ -229,12 +232,19 @@ decided s p a o = by (eqb n 0) (eqb n 21) refl refl
 
 module _ (s : State) (p a o : ℕ) where
   -- the mutex that it works on
-  abbrev at : ℕ
+  abbrev pub at : ℕ
   at = target_of a (processor_of s p).mutex o
 
   -- whether its thread is free of mutexes
-  abbrev free : Bool
+  abbrev pub free : Bool
   free = owns_none s.mutexes s.m (processor_of s p).current
+
+  -- the parts of the record put back: chains and mutexes first, then registers and count
+  pub parts : (e : Effect) (c : Chains) (xs : List Mutex) (s' : State) (ps : List Processor) (n : ℕ) → c ≡ carried s.chains p e.transfer → xs ≡ set s.mutexes at e.mutex →
+      s' ≡ record { p = s.p; t = s.t; m = s.m; stealing = s.stealing; applied = s.applied; chains = c; processors = s.processors; mutexes = xs } →
+      ps ≡ set s'.processors p e.proc → n ≡ up_to 65535 s'.applied →
+      record { p = s'.p; t = s'.t; m = s'.m; stealing = s'.stealing; applied = n; chains = s'.chains; processors = ps; mutexes = s'.mutexes } ≡ put_effect s p at e
+  parts e c xs s' ps n c-is xs-is s'-is ps-is n-is = rw (ps-is, n-is, s'-is, c-is, xs-is)
 
   -- its decision, and its refusal once it is asked that
   module _ (d : Decision) (d-is : d ≡ decision (sizes_of s) (move_view s p a o) (thread_of s o).status a o) (n : ℕ) (n_is : n ≡ cleared free d.refusal) where
@@ -270,6 +280,12 @@ module _ (s : State) (p a o : ℕ) where
       pub goes : (after : State) → after ≡ put_effect s p at d.effect → record { refusal = 0; state = after } ≡ moved_of s p a o
       unfolding moved_of stepped_of
       goes after e = rw (← refusal_is, z, e, effect_is)
+
+-- a move that is refused leaves the record
+pub left_alone : (s : State) (p a o n : ℕ) (after : State) → record { refusal = n; state = after } ≡ moved_of s p a o → (n ≡ 0 → ⊥) → after ≡ s
+unfolding moved_of
+left_alone s p a o n after e z =
+    ap (λ (x : Moved). x.state) e ∙ rw (ne_eqb (refusal_of s p a o) 0 (λ q. z (ap (λ (x : Moved). x.refusal) e ∙ q)))
 
 -- ---- one more move, a refused one, and the end
 
@@ -402,7 +418,7 @@ module _ (start : State) (j first : List ℕ) (i : ℕ) (s : State) (calls : Lis
     unfolding moved_of
     running_stop z =
         let none : refusal j i s ≡ 0 → ⊥ = λ q. z (refused ∙ q) in
-        let same : after ≡ s = leaves ∙ rw (ne_eqb _ 0 none) in (
+        let same = left_alone s _ _ _ n after e z in (
           ap (λ (x : State). ran n i x) same ∙ ap (λ (k : ℕ). ran k i s) refused ∙ sym (run-stop j (length j / 3) i s h none) ∙ g.left,
           sym (counted_stop j (length j / 3) i s h calls none) ∙ g.uncounted,
         )

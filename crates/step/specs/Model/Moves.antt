@@ -421,12 +421,6 @@ pub record Run : Type 0 where
   pub made : ℕ
   pub state : State
 
--- where a list of moves leads: why its first refused move is refused, or 0, how many moves were made, and the state after them
-pub record Run : Type 0 where
-  pub refusal : ℕ
-  pub made : ℕ
-  pub state : State
-
 abbrev pub ran : ℕ → ℕ → State → Run
 ran refusal made s = record { refusal = refusal; made = made; state = s }
 
