@@ -1,36 +1,18 @@
 -- Laws of a buffer that text is added to.
-use Prim.Native.Nat.{ℕ, zero, suc, ◌+◌, ◌-◌, ◌*◌, ◌/◌, ◌%◌, ◌≤◌, ◌<◌, min}
+use Prim.Native.Nat.{ℕ, ◌+◌, ◌-◌, ◌*◌, ◌/◌, ◌%◌, ◌≤◌, ◌<◌, min}
 use native.Mathlib.Numerals.{add-one}
 use native.Mathlib.Omega.{arith}
 use mathlib.Core.Bool.{Bool, true, false}
 use mathlib.Core.Path.{◌≡◌, refl, sym, ap, ap₂, ◌∙◌}
 use mathlib.Core.List.{List, [], ◌∷◌, ◌++◌, append_assoc}
 use lib.Dec.{leb}
-use lib.ListN.{length, get_or, set, take, drop, length-append}
-use lib.Seq.{paste, paste-zero, paste-suc, take-paste, drop-paste, length-paste, take-length, take-append-le, take-append-add, drop-drop, take-suc}
+use lib.ListN.{length, set, take, drop, length-append}
+use lib.Seq.{paste, paste-zero, take-paste, drop-paste, length-paste, take-length, take-append-le, take-append-add, drop-drop}
 use borrow.Author.Tests.{leb-true, leb-false, lt-ltb, le-ltb}
-use Rattle.command.specs.Printing.{decimal, wide, hex_digit, hex, spaces, padded, Buffer, buffer_of, fitting, add}
-
--- one byte more
-pub put_next : (d s : List ℕ) (at i : ℕ) → at + i < length d → i < length s → set (paste d at s i) (at + i) (get_or s i 0) ≡ paste d at s (i + 1)
-put_next d s at i h k = paste-suc d at s i 0 h k ∙ rw add-one
-
--- a copy of n bytes is what is added, where n is how many fit
-pub added : (d s : List ℕ) (at n : ℕ) → n ≡ min (length s) (length d - at) → buffer_of (paste d at s n) (at + n) ≡ add (buffer_of d at) s
-unfolding add
-added d s at n e = rw e
-
-pub spaces-length : (n : ℕ) → length (spaces n) ≡ n
-spaces-length zero = refl
-spaces-length (suc n) = omega (arith, spaces-length n)
-
-space_at : (n i : ℕ) → i < n → get_or (spaces n) i 0 ≡ 32
-space_at zero i h = let w : ⊥ = omega arith in absurd w
-space_at (suc n) zero h = refl
-space_at (suc n) (suc i) h = space_at n i (omega arith)
-
-pub space_next : (d : List ℕ) (at n i : ℕ) → at + i < length d → i < n → set (paste d at (spaces n) i) (at + i) 32 ≡ paste d at (spaces n) (i + 1)
-space_next d at n i h k = ap (set (paste d at (spaces n) i) (at + i)) (sym (space_at n i k)) ∙ put_next d (spaces n) at i h (omega (arith, spaces-length n))
+use Rattle.std.proofs.lemmas.Grind.{common_steps}
+use Rattle.std.proofs.lemmas.List.{set_split}
+use Rattle.command.specs.declared.printing.Page.{Page}
+use Rattle.command.specs.Printing.{decimal, wide, hex_digit, hex, spaces, padded, Buffer, buffer_of, fitting, add, written}
 
 -- a buffer keeps its length
 pub add-length : (p : Buffer) (x : List ℕ) → length (add p x).bytes ≡ length p.bytes
@@ -120,25 +102,17 @@ column p q x w e = go (leb (p.len + length x) (length p.bytes)) refl
         let f = add-over p x (leb-false (p.len + length x) (length p.bytes) h) in
         rw e (add-full (add p x) (spaces (w - ((add p x).len - p.len))) f ∙ sym (add-full (add p x) (spaces (w - length x)) f) ∙ add-add p x (spaces (w - length x)))
 
--- ---- what is put one after the other
-
-pub then : (p q r : Buffer) (x y : List ℕ) → q ≡ add p x → r ≡ add q y → r ≡ add p (x ++ y)
-then p q r x y e f = f ∙ rw e (add-add p x y)
-
-pub cell : (p q r : Buffer) (x : List ℕ) (w : ℕ) → q ≡ add p x → r ≡ add q (spaces (w - (q.len - p.len))) → r ≡ add p (padded w x)
-cell p q r x w e f = f ∙ column p q x w e
-
 -- ---- numbers
 
-pub one_digit : (n : ℕ) → n < 10 → (48 + n % 10) ∷ [] ≡ decimal n
+pub one_digit : (n : ℕ) → n < 10 → decimal n ≡ (48 + n % 10) ∷ []
 unfolding decimal
 one_digit n h = let e : n % 10 ≡ n = omega arith in rw (lt-ltb n 10 h, e)
 
-pub two_digits : (n : ℕ) → 10 ≤ n → n < 100 → (48 + n / 10 % 10) ∷ (48 + n % 10) ∷ [] ≡ decimal n
+pub two_digits : (n : ℕ) → 10 ≤ n → n < 100 → decimal n ≡ (48 + n / 10 % 10) ∷ (48 + n % 10) ∷ []
 unfolding decimal
 two_digits n l h = let e : n / 10 % 10 ≡ n / 10 = omega arith in rw (le-ltb n 10 l, lt-ltb n 100 h, e)
 
-pub three_digits : (n : ℕ) → 100 ≤ n → n < 1000 → (48 + n / 100 % 10) ∷ (48 + n / 10 % 10) ∷ (48 + n % 10) ∷ [] ≡ decimal n
+pub three_digits : (n : ℕ) → 100 ≤ n → n < 1000 → decimal n ≡ (48 + n / 100 % 10) ∷ (48 + n / 10 % 10) ∷ (48 + n % 10) ∷ []
 unfolding decimal
 three_digits n l h =
     let e : n / 100 % 10 ≡ n / 100 = omega arith in
@@ -149,9 +123,7 @@ pub wide_short : (n : ℕ) → n < 1000 → decimal n ≡ wide n
 unfolding wide
 wide_short n h = rw (lt-ltb n 1000 h)
 
-pub wide-long : (n : ℕ) → 1000 ≤ n → decimal (n / 1000) ++ ((48 + n / 100 % 10) ∷ (48 + n / 10 % 10) ∷ (48 + n % 10) ∷ []) ≡ wide n
-unfolding wide
-wide-long n h = rw (le-ltb n 1000 h)
+pub ruleset decimals = (one_digit, two_digits, three_digits)
 
 -- ---- hexadecimal digits
 
@@ -165,15 +137,32 @@ unfolding hex
 hex_append [] m = refl
 hex_append (b ∷ l) m = ap (λ (x : List ℕ). hex_digit (b / 16) ∷ hex_digit (b % 16) ∷ x) (hex_append l m)
 
-pub hex-none : (p : Buffer) (l : List ℕ) → p ≡ add p (hex (take 0 l))
-unfolding hex
-hex-none p l = sym (add_none p)
+-- ---- pages
 
--- one byte's two digits more
-pub hex-next : (p q r : Buffer) (l : List ℕ) (i : ℕ) → i < length l → get_or l i 0 < 256 → q ≡ add p (hex (take i l))
-    → r ≡ add q (hex_digit (get_or l i 0 / 16 % 16) ∷ hex_digit (get_or l i 0 % 16) ∷ []) → r ≡ add p (hex (take (i + 1) l))
-unfolding hex
-hex-next p q r l i h b e f =
-    let w : get_or l i 0 / 16 % 16 ≡ get_or l i 0 / 16 = omega arith in
-    let t : take (i + 1) l ≡ take i l ++ (get_or l i 0 ∷ []) = rw add-one (take-suc l i 0 h) in
-    f ∙ rw (e, w, add-add) (ap (add p) (sym (ap hex t ∙ hex_append (take i l) (get_or l i 0 ∷ []))))
+one-byte : (d : List ℕ) (at b : ℕ) → at < length d → set d at b ≡ paste d at (b ∷ []) 1
+one-byte d at b h = rw (set_split d at b h, add-one, append_assoc)
+
+-- one byte more, where there is room and where there is none
+pub write_one : (p : Page) (b : ℕ) → p.len < length p.bytes.now → record p { bytes = record p.bytes { now = set p.bytes.now p.len b }; len = p.len + 1 } ≡ written p (b ∷ [])
+unfolding written add
+write_one p b h = let n : fitting (buffer_of p.bytes.now p.len) 1 ≡ 1 = omega arith in rw (n, one-byte p.bytes.now p.len b h)
+
+pub write_full : (p : Page) (b : ℕ) → length p.bytes.now ≤ p.len → p ≡ written p (b ∷ [])
+unfolding written
+write_full p b h = let e = add-full (buffer_of p.bytes.now p.len) (b ∷ []) h in rw e
+
+pub written_twice : (p : Page) (x y : List ℕ) → written (written p x) y ≡ written p (x ++ y)
+unfolding written
+written_twice p x y = let e = add-add (buffer_of p.bytes.now p.len) x y in rw e
+
+pub written_none : (p : Page) → written p [] ≡ p
+unfolding written
+written_none p = let e = add_none (buffer_of p.bytes.now p.len) in rw e
+
+-- a text, and spaces up to the width of the column that began with it
+pub written_column : (p : Page) (x : List ℕ) (w : ℕ) → written (written p x) (spaces (w - ((written p x).len - p.len))) ≡ written p (padded w x)
+unfolding written
+written_column p x w = let e = column (buffer_of p.bytes.now p.len) _ x w refl in rw e
+
+-- what comes of texts put on a page one after the other
+pub ruleset page_steps = (common_steps, written_twice, written_none, written_column)

@@ -1,8 +1,9 @@
--- Texts, numbers and bytes as text, and a buffer that text is added to.
+-- Texts, numbers and bytes as text, a buffer that text is added to, and a page, which lends one.
 use Rattle.std.specs.Prelude.{ℕ, ◌+◌, ◌-◌, ◌/◌, ◌%◌, min, cond, List, [], ◌∷◌, ◌++◌, ltb, length, replicate}
 use Prim.Native.Char.{code}
 use Prim.Native.String.{String, [] as no_char, ◌∷◌ as ◌then◌}
 use Rattle.std.proofs.Math.Seq.{paste}
+use Rattle.command.specs.declared.printing.Page.{Page}
 
 -- a text as bytes, each the code of its character
 unfoldable pub text : String → List ℕ
@@ -62,3 +63,9 @@ fitting p n = min n (length p.bytes - p.len)
 -- text put behind what counts: as much of it as fits
 unfoldable pub add : Buffer → List ℕ → Buffer
 add p x = record { bytes = paste p.bytes p.len x (fitting p (length x)); len = p.len + fitting p (length x) }
+
+-- ---- a page
+
+-- a page with a text put on it: its bytes, which the same owner lent, as the buffer of them that the text is added to
+unfoldable pub written : Page → List ℕ → Page
+written p x = record p { bytes = record p.bytes { now = (add (buffer_of p.bytes.now p.len) x).bytes }; len = (add (buffer_of p.bytes.now p.len) x).len }

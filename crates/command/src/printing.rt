@@ -1,98 +1,13 @@
-// Text put into a lent buffer behind its first `at` bytes: as much of it as fits. Each function answers how many bytes count then.
-ghost use Rattle.std.specs.Prelude.{◌≡◌, ◌+◌, ◌-◌, ◌%◌, ◌<◌, min, ◌++◌};
-ghost use Rattle.command.specs.Printing.{decimal, wide, hundredths, hex_digit, hex, line_feed, spaces, buffer_of, add};
+// A page, a lent buffer that text is put into behind its first `len` bytes: as much of it as fits.
+ghost use Rattle.std.specs.Prelude.{◌≡◌, ◌+◌, ◌-◌, ◌%◌, ◌<◌, [], ◌∷◌, ◌++◌};
+ghost use Rattle.std.specs.Fn.{FnOnceReturnsAtMut};
+ghost use Rattle.command.specs.declared.printing.Page.{Page};
+ghost use Rattle.command.specs.Printing.{decimal, wide, hundredths, hex_digit, hex, line_feed, spaces, written};
 
-// A difference, 0 where it would be below.
-fn less(n: usize, m: usize) -> usize
-    ensures { result ≡ n - m }
-{
-    if m <= n { n - m } else { 0 }
-}
-
-// How many of n bytes fit behind `at` in a buffer of so many.
-fn fitting(len: usize, at: usize, n: usize) -> usize
-    ensures { result ≡ min n (len - at) }
-{
-    let room = less(len, at);
-    if n <= room { n } else { room }
-}
-
-pub fn put(out: &mut [u8], at: usize, bytes: &[u8]) -> usize
-    ensures { buffer_of out.new result ≡ add (buffer_of out.old at) bytes.now }
-{
-    let n = fitting(out.len(), at, bytes.len());
-    for i in 0..n {
-        out[at + i] = bytes[i];
-    }
-    at + n
-}
-
-pub fn put_spaces(out: &mut [u8], at: usize, count: usize) -> usize
-    ensures { buffer_of out.new result ≡ add (buffer_of out.old at) (spaces count) }
-{
-    let n = fitting(out.len(), at, count);
-    for i in 0..n {
-        out[at + i] = b' ';
-    }
-    at + n
-}
-
-// Spaces up to the width of a column that began at `from`.
-pub fn pad(out: &mut [u8], at: usize, from: usize, width: usize) -> usize
-    ensures { buffer_of out.new result ≡ add (buffer_of out.old at) (spaces (width - (at - from))) }
-{
-    put_spaces(out, at, less(width, less(at, from)))
-}
-
-// The last digit of a number.
-fn digit(n: u16) -> u8
-    ensures { result ≡ 48 + n % 10 }
-{
-    b'0' + (n % 10) as u8
-}
-
-// A number below 1,000 in decimal.
-fn put_short(out: &mut [u8], at: usize, n: u16) -> usize
-    requires { n < 1000 }
-    ensures { buffer_of out.new result ≡ add (buffer_of out.old at) (decimal n) }
-{
-    if n < 10 {
-        let text = [digit(n)];
-        return put(out, at, &text);
-    }
-    if n < 100 {
-        let text = [digit(n / 10), digit(n)];
-        return put(out, at, &text);
-    }
-    let text = [digit(n / 100), digit(n / 10), digit(n)];
-    put(out, at, &text)
-}
-
-pub fn put_number(out: &mut [u8], at: usize, n: u8) -> usize
-    ensures { buffer_of out.new result ≡ add (buffer_of out.old at) (decimal n) }
-{
-    put_short(out, at, n as u16)
-}
-
-// A number of two bytes.
-pub fn put_wide(out: &mut [u8], at: usize, n: u16) -> usize
-    ensures { buffer_of out.new result ≡ add (buffer_of out.old at) (wide n) }
-{
-    if n < 1000 {
-        return put_short(out, at, n);
-    }
-    let end = put_short(out, at, n / 1000);
-    let text = [digit(n / 100), digit(n / 10), digit(n)];
-    put(out, end, &text)
-}
-
-// A number of hundredths: a point and two digits stand last.
-pub fn put_hundredths(out: &mut [u8], at: usize, n: u16) -> usize
-    ensures { buffer_of out.new result ≡ add (buffer_of out.old at) (hundredths n) }
-{
-    let end = put_short(out, at, n / 100);
-    let text = [b'.', digit(n / 10), digit(n)];
-    put(out, end, &text)
+#[derive(Drop)]
+pub struct Page<'a> {
+    pub bytes: &'a mut [u8],
+    pub len: usize,
 }
 
 fn hex_digit(d: u8) -> u8
@@ -106,31 +21,132 @@ fn hex_digit(d: u8) -> u8
     }
 }
 
-// Two lower-case hexadecimal digits a byte, unspaced.
-pub fn put_hex(out: &mut [u8], at: usize, bytes: &[u8]) -> usize
-    ensures { buffer_of out.new result ≡ add (buffer_of out.old at) (hex bytes.now) }
-{
-    let mut end = at;
-    for i in 0..bytes.len() {
-        let b = bytes[i];
-        let text = [hex_digit(b / 16), hex_digit(b)];
-        end = put(out, end, &text);
+impl Page<'_> {
+    #[tactic(auto, using(crate::proofs::Put::write_one, crate::proofs::Put::write_full))]
+    pub fn push(&mut self, b: u8)
+        ensures { self.new ≡ written self.old (b ∷ []) }
+    {
+        if self.len < self.bytes.len() {
+            self.bytes[self.len] = b;
+            self.len += 1;
+        }
     }
-    end
-}
 
-// A number on a line of its own.
-pub fn number_line(out: &mut [u8], at: usize, n: u8) -> usize
-    ensures { buffer_of out.new result ≡ add (buffer_of out.old at) (decimal n ++ line_feed) }
-{
-    let end = put_number(out, at, n);
-    put(out, end, b"\n")
-}
+    #[tactic(auto, using(crate::proofs::Put::page_steps))]
+    pub fn put(&mut self, text: &[u8])
+        ensures { self.new ≡ written self.old text.now }
+    {
+        for &b in text {
+            self.push(b);
+        }
+    }
 
-// Bytes in hexadecimal digits on a line of their own.
-pub fn hex_line(out: &mut [u8], at: usize, bytes: &[u8]) -> usize
-    ensures { buffer_of out.new result ≡ add (buffer_of out.old at) (hex bytes.now ++ line_feed) }
-{
-    let end = put_hex(out, at, bytes);
-    put(out, end, b"\n")
+    #[tactic(auto, using(crate::proofs::Put::page_steps))]
+    pub fn spaces(&mut self, count: usize)
+        ensures { self.new ≡ written self.old (spaces count) }
+    {
+        for _ in 0..count {
+            self.push(b' ');
+        }
+    }
+
+    // Spaces up to the width of a column that began at `from`.
+    pub fn pad(&mut self, from: usize, width: usize)
+        ensures { self.new ≡ written self.old (spaces (width - (self.old.len - from))) }
+    {
+        self.spaces(width.saturating_sub(self.len.saturating_sub(from)));
+    }
+
+    // A column: what `text` puts, and spaces up to the width.
+    pub fn column<F: FnOnce(&mut Page)>(&mut self, width: usize, text: F)
+        requires { F.IsAlwaysCallable text }
+        ensures { (between : Page) × FnOnceReturnsAtMut F.FnOnce text self.old tt between × (self.new ≡ written between (spaces (width - (between.len - self.old.len)))) }
+    {
+        let from = self.len;
+        text(self);
+        self.pad(from, width);
+    }
+
+    // The last digit of a number.
+    fn digit(&mut self, n: u16)
+        ensures { self.new ≡ written self.old ((48 + n % 10) ∷ []) }
+    {
+        self.push(b'0' + (n % 10) as u8);
+    }
+
+    // A number below 1,000 in decimal.
+    #[tactic(auto, using(crate::proofs::Put::page_steps, crate::proofs::Put::decimals))]
+    fn short(&mut self, n: u16)
+        requires { n < 1000 }
+        ensures { self.new ≡ written self.old (decimal n) }
+    {
+        if 100 <= n {
+            self.digit(n / 100);
+        }
+        if 10 <= n {
+            self.digit(n / 10);
+        }
+        self.digit(n);
+    }
+
+    pub fn number(&mut self, n: u8)
+        ensures { self.new ≡ written self.old (decimal n) }
+    {
+        self.short(n as u16);
+    }
+
+    // A number of two bytes.
+    #[tactic(auto, using(crate::proofs::Put::page_steps), unfolding(crate::specs::Printing::wide))]
+    pub fn wide(&mut self, n: u16)
+        ensures { self.new ≡ written self.old (wide n) }
+    {
+        if n < 1000 {
+            self.short(n);
+        } else {
+            self.short(n / 1000);
+            self.digit(n / 100);
+            self.digit(n / 10);
+            self.digit(n);
+        }
+    }
+
+    // A number of hundredths: a point and two digits stand last.
+    #[tactic(auto, using(crate::proofs::Put::page_steps), unfolding(crate::specs::Printing::hundredths))]
+    pub fn hundredths(&mut self, n: u16)
+        ensures { self.new ≡ written self.old (hundredths n) }
+    {
+        self.short(n / 100);
+        self.push(b'.');
+        self.digit(n / 10);
+        self.digit(n);
+    }
+
+    // Two lower-case hexadecimal digits a byte, unspaced.
+    #[tactic(auto, using(crate::proofs::Put::page_steps, crate::proofs::Put::hex_append), unfolding(crate::specs::Printing::hex))]
+    pub fn hex(&mut self, bytes: &[u8])
+        ensures { self.new ≡ written self.old (hex bytes.now) }
+    {
+        for &b in bytes {
+            self.push(hex_digit(b / 16));
+            self.push(hex_digit(b));
+        }
+    }
+
+    // A number on a line of its own.
+    #[tactic(auto, using(crate::proofs::Put::page_steps))]
+    pub fn number_line(&mut self, n: u8)
+        ensures { self.new ≡ written self.old (decimal n ++ line_feed) }
+    {
+        self.number(n);
+        self.push(b'\n');
+    }
+
+    // Bytes in hexadecimal digits on a line of their own.
+    #[tactic(auto, using(crate::proofs::Put::page_steps))]
+    pub fn hex_line(&mut self, bytes: &[u8])
+        ensures { self.new ≡ written self.old (hex bytes.now ++ line_feed) }
+    {
+        self.hex(bytes);
+        self.push(b'\n');
+    }
 }

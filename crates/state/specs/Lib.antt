@@ -4,4 +4,5 @@ pub mod Refusal
 pub mod Association
 pub mod Rules
 pub mod Allowed
+pub mod Each
 pub mod Model

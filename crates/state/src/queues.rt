@@ -30,24 +30,24 @@ pub fn put_thread(threads: &mut [u8], k: u8, t: Thread)
     put(threads, i + 2, t.next);
 }
 
-// What taking from a queue finds: a thread with the remaining chain's first, or nothing.
+// The front of a queue: its first thread, and the first of the chain that remains behind it.
 #[derive(Clone, Copy, Debug, PartialEq, Eq)]
-pub enum Taken {
-    Thread(u8, u8),
-    Nothing,
+pub struct Front {
+    pub thread: u8,
+    pub rest: u8,
 }
 
-// Takes from queue q: what it finds, while the queue stays as it is until the thread is moved.
-pub fn take(firsts: &[u8], threads: &[u8], q: u8) -> Taken
+// Takes from queue q: its front, if it has one, while the queue stays as it is until the thread is moved.
+pub fn take(firsts: &[u8], threads: &[u8], q: u8) -> Option<Front>
     ensures { result ≡ taken_in firsts.now threads.now q }
 {
     let first = at(firsts, q as usize);
     let rest = next_in(threads, first);
-    if first == 0 {
-        Taken::Nothing
-    } else {
-        Taken::Thread(first, rest)
-    }
+    let front = Front {
+        thread: first,
+        rest,
+    };
+    if first == 0 { None } else { Some(front) }
 }
 
 // The thread at the end of the chain from first: no chain has more than 32 links.

@@ -298,30 +298,6 @@ counted-end j n s calls =
     let k : n - n ≡ 0 = omega arith in
     rw k
 
-length-noted : (s : State) (j : List ℕ) (i : ℕ) (calls : List ℕ) → length (noted_at s j i calls) ≡ length calls
-length-noted s j i calls = by (eqb (get_or j (3 * i + 1) 0) 0)
-  where
-    k : ℕ
-    k = (processor_of s (get_or j (3 * i) 0)).current
-
-    by : (b : Bool) → length (choose b calls (noted calls k)) ≡ length calls
-    by true = refl
-    by false = length-set calls k (up_to 65535 (get_or calls k 0))
-
--- a list of counts keeps its length
-pub length-counted : (j : List ℕ) (n i : ℕ) (s : State) (calls : List ℕ) → length (counted_from j n i s calls) ≡ length calls
-unfolding counted_from
-length-counted j zero i s calls = refl
-length-counted j (suc n) i s calls =
-    by (eqb (moved_at s j i).refusal 0) (length-counted j n (i + 1) (moved_at s j i).state (noted_at s j i calls) ∙ length-noted s j i calls)
-  where
-    rest : List ℕ
-    rest = counted_from j n (i + 1) (moved_at s j i).state (noted_at s j i calls)
-
-    by : (b : Bool) → length rest ≡ length calls → length (choose b rest calls) ≡ length calls
-    by true e = e
-    by false e = refl
-
 -- what each accepted move keeps, all moves keep: to the end, or to the first refused move
 module _ (j : List ℕ) (G : ℕ → State → List ℕ → Type 0) (last : ℕ)
     (more :
@@ -407,9 +383,6 @@ module _ (start : State) (j first : List ℕ) (i : ℕ) (s : State) (calls f b :
 
   pub bytes-size : length b ≡ 99
   bytes-size = omega (arith, ap length g.bytes, bytes-length g.threads, g.threads-size)
-
-  pub calls-size : length calls ≡ length first
-  calls-size = sym (length-counted j _ i record_of calls) ∙ ap length g.uncounted ∙ length-counted j _ 0 start first
 
   pub running_end : i ≡ length j / 3 → (ran 0 i record_of ≡ run_of start j) × (calls ≡ counted_of start j first)
   running_end e = (

@@ -13,7 +13,7 @@ pub mod registers;
 pub mod trylock;
 pub mod unlock;
 
-use state::queues::Taken;
+use state::queues::Front;
 use state::refusal::Refusal;
 use state::{Mutex, Processor, State};
 
@@ -24,8 +24,8 @@ pub struct View {
     pub number: u8,
     pub proc: Processor,
     pub mutex: Mutex,
-    pub queue: Taken,
-    pub ready: Taken,
+    pub queue: Option<Front>,
+    pub ready: Option<Front>,
     pub index: u8,
     pub queues: u8,
 }

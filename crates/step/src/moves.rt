@@ -8,7 +8,7 @@ ghost use Rattle.step.specs.Model.Moves.{target_of, probed, on_ring, index_of, s
 use crate::calls::note_move;
 use crate::cause::{owns_none, sizes};
 use crate::deciding::decide;
-use crate::registers::{by_fields, mutex_by_fields, up_wide};
+use crate::registers::{by_fields, mutex_by_fields};
 use crate::{Run, Status, Transfer, View};
 use state::access::{at, put};
 use state::queues::{bytes_of, join, put_thread, ready_queues, take, threads_of};
@@ -189,7 +189,7 @@ pub fn run(mut s: State, moves: &[u8], calls: &mut [u16]) -> Run
             put(&mut mutexes, m as usize, mutex_by_fields(e.mutex));
         }
         put(&mut processors, p as usize, by_fields(e.proc));
-        s.applied = up_wide(s.applied);
+        s.applied = s.applied.saturating_add(1);
     }
     ended(Ok(()), n, s, firsts, &bytes, processors, mutexes)
 }

@@ -1,22 +1,25 @@
 -- `step::moves::run` meets its contract: the loop's invariant says that the parts are those of the record after the moves made.
 -- Assumes nothing.
-use Prim.Native.Nat.{ℕ, ◌+◌, ◌*◌, ◌/◌}
-use mathlib.Core.Bool.{Bool, true}
+use Rattle.std.proofs.Common.{min, ◌-◌, ◌^◌}
+use Prim.Native.Nat.{ℕ, ◌+◌, ◌*◌, ◌/◌, ◌≤◌}
+use mathlib.Core.Bool.{Bool, true, false}
+use lib.Dec.{ltb}
+use borrow.Author.Tests.{ltb-true, ltb-false}
 use mathlib.Core.List.{List}
 use mathlib.Core.Path.{◌≡◌, refl, sym, ap, ◌∙◌}
 use native.Mathlib.Omega.{arith}
 use lib.ListN.{length, get_or, set}
-use Rattle.reference.specs.Lists.{tabulate}
+use Rattle.reference.specs.Lists.{choose, tabulate}
 use Rattle.state.specs.declared.Thread.{Thread}
 use Rattle.state.specs.declared.Processor.{Processor}
 use Rattle.state.specs.declared.Mutex.{Mutex}
 use Rattle.state.specs.declared.State.{State}
-use Rattle.state.specs.Model.Access.{thread_from, bytes_of}
+use Rattle.state.specs.Model.Access.{thread_from, bytes_of, with_applied}
 use Rattle.state.specs.Refusal.{number, outcome}
 use Rattle.state.proofs.Bytes.{threads-back}
 use Rattle.state.proofs.Refused.{not_none}
 use Rattle.state.proofs.Sized.{sized}
-use Rattle.step.specs.Model.Moves.{owns_none, gathered_of, ran, decided}
+use Rattle.step.specs.Model.Moves.{up_to, owns_none, gathered_of, ran, decided}
 use Rattle.step.proofs.InPlace.{Reading, running_start, stands, owner_stays, goes_free, running_stop, unwritten, running_more, running_end}
 use Rattle.step.proofs.moves.run.Goals as goal
 use Rattle.step.proofs.moves.run.Goals.{After-decide, then-done, else-done, else-action-eq5-via-then-action-eq5+else-not-owns_none, else-action-eq5-via-else-action-eq5}
@@ -39,7 +42,7 @@ reading c =
       bytes = l.bytes;
       processors = l.processors;
       mutexes = l.mutexes;
-      running = l.invariant;
+      running = l.invariant.1;
       more = omega (arith, c.loop-made-test.true);
       processor = c.by_fields-r.result;
       target = c.target-m.result;
@@ -52,6 +55,14 @@ reading c =
       sizes = c.sizes-z.result;
       sizes_is = c.sizes-z.ensures;
     }
+
+-- one move more is applied
+capped : (n : ℕ) → n ≤ 65535 → min (n + 1) (2 ^ 16 - 1) ≡ up_to 65535 n
+capped n h = by (ltb n 65535) refl
+  where
+    by : (b : Bool) → ltb n 65535 ≡ b → min (n + 1) 65535 ≡ choose b (n + 1) n
+    by true e = omega (arith, ltb-true n 65535 e)
+    by false e = omega (arith, ltb-false n 65535 e)
 
 -- the record that the end gathers
 gathered : {start : State} {j first : List ℕ} (here : Reading start j first) →
@@ -68,7 +79,7 @@ pub loop-made-init : goal.loop-made-init
 loop-made-init c =
     let t = c in
     let b = c.bytes_of-bytes in
-    running_start c.args.s c.args.moves.now c.args.calls.now b.result (sized t.well_formed.0) b.ensures
+    (omega arith, running_start c.args.s c.args.moves.now c.args.calls.now b.result (sized t.well_formed.0) b.ensures)
 
 pub returns-in-Err : goal.returns-in-Err
 unfolding outcome decided
@@ -106,17 +117,20 @@ loop-made-preserved c =
       | then-done w ↦ w.mutexes-is ∙ w.put.ensures ∙ ap (set here.mutexes here.target) w.mutex_by_fields.ensures
       | else-done w ↦ w.mutexes-is ∙ same w.if-done.false
     ]
-    in
-    running_more here _ c.in-Ok.ensures.decision 0 none refl _ c.note_move.new.calls c.carry.new.firsts c.carry.new.threads
-    c.put-in-loop-made.new.xs c.if-done.mutexes (rw c.up_wide.ensures) c.note_move.ensures c.carry.ensures.firsts c.carry.ensures.threads
-    (c.put-in-loop-made.ensures ∙ ap (set here.processors p) c.by_fields.ensures) xs
+    in (
+      omega (arith, c.saturating_add.ensures),
+      running_more here _ c.in-Ok.ensures.decision 0 none refl _ c.note_move.new.calls c.carry.new.firsts c.carry.new.threads
+          c.put-in-loop-made.new.xs c.if-done.mutexes
+          (ap (λ (n : ℕ). with_applied n here.state) (c.saturating_add.ensures ∙ capped here.state.applied c.loop-made.invariant.0)) c.note_move.ensures c.carry.ensures.firsts c.carry.ensures.threads
+          (c.put-in-loop-made.ensures ∙ ap (set here.processors p) c.by_fields.ensures) xs,
+    )
 
 pub returns : goal.returns
 unfolding outcome
 returns c =
     let t = c in
     let l = c.loop-made in
-    let g = l.invariant in
+    let g = l.invariant.1 in
     let end = running_end t.args.s t.args.moves.now t.args.calls.now l.made l.s l.calls l.firsts l.bytes l.processors l.mutexes g (omega arith)
     in
     let whole : State = gathered_of l.s l.firsts (tabulate (thread_from l.bytes) 0 33) l.processors l.mutexes l.s.applied in
