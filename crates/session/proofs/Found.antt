@@ -3,23 +3,27 @@
 use Prim.Native.Nat.{ℕ, ◌-◌, ◌*◌, ◌≤◌, ◌<◌}
 use mathlib.Core.Bool.{Bool, true, false, ◌&&◌, true≢false}
 use mathlib.Core.List.{List, []}
+use Rattle.std.specs.Prelude.{Some, None, Ok, Err}
 use mathlib.Core.Path.{◌≡◌, refl, sym, ap, ◌∙◌, subst}
 use native.Mathlib.Omega.{arith}
 use lib.Dec.{eqb}
 use lib.ListN.{length, take}
 use borrow.Author.Tests.{le-leb, lt-leb, eq-eqb, eqb-true, ne_eqb}
-use Rattle.session.specs.declared.replay.Found.{Found}
+use Rattle.session.specs.declared.replay.Stages.{Stages}
 use Rattle.state.specs.declared.Session.{Session}
+use Rattle.state.specs.declared.refusal.Refusal.{Refusal}
+use Rattle.state.specs.Refusal.{outcome}
+use Rattle.state.proofs.Refused.{numbered}
 use Rattle.state.specs.declared.State.{State as Record}
 use Rattle.state.specs.Association.{encode, decode}
 use Rattle.state.specs.Rules.{state_ok, session_ok}
-use Rattle.state.specs.Allowed.{Allowed}
 use Rattle.state.specs.Record.{Sized}
+use Rattle.state.specs.contracts.StatePartialEq.TheImpl as same
 use Rattle.state.specs.Model.Access.{start_record}
-use Rattle.step.specs.declared.Run.{Run}
-use Rattle.step.specs.Model.Moves.{run_from, run_of, counted_from, counted_of}
+use Rattle.step.specs.declared.Run as code
+use Rattle.step.specs.Model.Moves.{Run, run_shown, run_from, run_of, counted_from, counted_of}
 use Rattle.step.proofs.Split.{Alike, both-made, front-refused}
-use Rattle.reference.specs.Lists.{in_range}
+use Rattle.reference.specs.Lists.{in_range, choose}
 use Rattle.reference.specs.State.{same_state}
 use Rattle.reference.specs.Start.{Config, config_cause, start}
 use Rattle.reference.specs.Step.{Move, run}
@@ -28,11 +32,12 @@ use Rattle.reference.specs.Session.{moves, replays}
 use Rattle.reference.proofs.Tests.{both_left, both_right, range_true, true_range}
 use Rattle.reference.proofs.Same.{same_state_exact}
 use Rattle.shown.proofs.Kept.{state-kept, fields_say}
-use Rattle.shown.proofs.Decode.{decode-encode, encode-ok}
+use Rattle.shown.proofs.Decode.{decode-encode}
 use Rattle.shown.proofs.Reached.{reached-allowed}
 use Rattle.shown.proofs.Unique.{session-held}
 use Rattle.session.specs.Contract.{shown, config_of, lent_refusal, matches}
-use Rattle.session.specs.Model.Replay.{between, first_record, counted_to, farther, Reaches, Compares, Replays}
+use Rattle.session.specs.Model.Replay.{between, first_record, counted_to, farther, all_made, Reaches, Replays}
+use Rattle.session.proofs.Equal.{state_exact}
 use Rattle.session.proofs.Answers.{lent_passed}
 use Rattle.session.proofs.Replayed.{Made, made_all}
 use Rattle.session.proofs.Standing.{accepted-within}
@@ -68,20 +73,13 @@ module _ (r : Session) (ok : session_ok r ≡ true) where
   shown-back : Sized r.state → encode (shown r) ≡ r.state
   shown-back size = ap (λ (x : Session). x.state) (session-held r size ok).same
 
--- the record of the state that accepted moves give, from that start table
+-- the states are the same exactly where the records are, once the moves are accepted
 module _ (r : Session) (size : Sized r.state) (ok : session_ok r ≡ true) (ms : List Move) (legal : accepted (start (config_of r)) ms ≡ true) (s : Record)
     (is : s ≡ encode (run (start (config_of r)) ms)) where
-  allowed : Allowed (run (start (config_of r)) ms)
-  allowed = reached-allowed (config_of r) (config-right r ok) ms legal
-
-  pub given_ok : state_ok s ≡ true
-  given_ok = rw is (encode-ok _ allowed)
-
   back : decode s ≡ run (start (config_of r)) ms
-  back = rw is (decode-encode _ allowed)
+  back = rw is (decode-encode _ (reached-allowed (config_of r) (config-right r ok) ms legal))
 
-  -- the states are the same exactly where the records are
-  pub alike_is : (b : Bool) → (b ≡ true → s ≡ r.state) → (s ≡ r.state → b ≡ true) → b ≡ same_state (run (start (config_of r)) ms) (shown r)
+  alike_is : (b : Bool) → (b ≡ true → s ≡ r.state) → (s ≡ r.state → b ≡ true) → b ≡ same_state (run (start (config_of r)) ms) (shown r)
   alike_is true f g = sym (rw (sym back ∙ ap decode (f refl)) (same_state_exact.itself (shown r)))
   alike_is false f g = by (same_state (run (start (config_of r)) ms) (shown r)) refl
     where
@@ -134,115 +132,154 @@ module _ (c : Config) (right : config_cause c ≡ 0) (j : List ℕ) (a b : ℕ) 
 
 -- no moves
 pub part_none : (a b : ℕ) → a ≡ b → (s : Record) (j calls : List ℕ) →
-    (record { refusal = 0; made = 0; state = s } ≡ run_of s (between a b j)) × (calls ≡ counted_of s (between a b j) calls)
-unfolding run_from counted_from
+    (Some s ≡ all_made (run_of s (between a b j))) × (calls ≡ counted_of s (between a b j) calls)
+unfolding all_made run_from counted_from
 part_none a b e s j calls = let z : 3 * b - 3 * a ≡ 0 = omega arith in rw z (refl, refl)
+
+-- whether the code's run made all its moves
+pub part_made : (r : code.Run) (g : Run) → run_shown r ≡ g → r.outcome ≡ Ok tt → Some r.state ≡ all_made g
+unfolding all_made outcome
+part_made r g is ok = rw (← is, ok)
+
+pub part_refused : (r : code.Run) (g : Run) → run_shown r ≡ g → (e : Refusal) → r.outcome ≡ Err e → None ≡ all_made g
+unfolding all_made outcome
+part_refused r g is e refused = rw (← is, refused, numbered e)
+
+not-made : (g : Run) → None ≡ all_made g → g.refusal ≡ 0 → ⊥
+unfolding all_made
+not-made g h z = let e = rw (eq-eqb g.refusal 0 z) at h in cc
+
+module _ (c : Config) (ms : List Move) (g : Run) (made : Made c ms (eqb g.refusal 0) g.state) where
+  all-of : (x : Record) → Some x ≡ all_made g → Made c ms true x
+  unfolding all_made
+  all-of x h = by (eqb g.refusal 0) made h
+    where
+      by : (t : Bool) → Made c ms t g.state → Some x ≡ choose t (Some g.state) None → Made c ms true x
+      by true m e = let same : g.state ≡ x = cc in subst (Made c ms true) same m
+      by false m e = absurd (cc)
+
+  none-of : None ≡ all_made g → accepted (start c) ms ≡ false
+  none-of h = sym made.accepts ∙ ne_eqb g.refusal 0 (not-made g h)
 
 -- ---- the journal's kept moves: the first a, those up to b, then the others
 
-module _ (r : Session) (j : List ℕ) (free : lent_refusal r (length j) ≡ 0) (a b : ℕ) (ab : a ≤ b) (top : b ≤ r.kept) where
+pub journal_long : (r : Session) (j : List ℕ) → lent_refusal r (length j) ≡ 0 → 3 * r.kept ≤ length j
+journal_long r j free = let h = lent_passed r (length j) free in omega (arith, h.0, (kept_range r h.1).1)
+
+module _ (r : Session) (j : List ℕ) (free : lent_refusal r (length j) ≡ 0) (a b : ℕ) (ab : a ≤ b) (top : b ≤ r.kept)
+    (first : Record) (first-is : first ≡ first_record r) where
   abbrev c : Config
   c = config_of r
 
-  ok : session_ok r ≡ true
-  ok = (lent_passed r (length j) free).1
-
   right : config_cause c ≡ 0
-  right = config-right r ok
-
-  pub journal-long : 3 * r.kept ≤ length j
-  journal-long = omega (arith, (lent_passed r (length j) free).0, (kept_range r ok).1)
+  right = config-right r (lent_passed r (length j) free).1
 
   -- not all of the first m are accepted
-  none : (m : ℕ) → m ≤ r.kept → (s x : Record) → Made c (moves m j) false x → Reaches r j a b (record { whole = false; low = s; high = s })
-  none m h s x made =
-      record {
-        whole = by (accepted (start c) (moves r.kept j)) refl;
-        low = λ z. absurd (true≢false (sym z));
-        high = λ z. absurd (true≢false (sym z));
-      }
+  none : (m : ℕ) → m ≤ r.kept → accepted (start c) (moves m j) ≡ false → Reaches r j a b None
+  unfolding Reaches
+  none m h e = by (accepted (start c) (moves r.kept j)) refl
     where
-      by : (t : Bool) → accepted (start c) (moves r.kept j) ≡ t → false ≡ t
-      by false e = refl
-      by true e = absurd (true≢false (sym (accepted-within m r.kept j (start c) h e) ∙ sym made.accepts))
+      by : (t : Bool) → accepted (start c) (moves r.kept j) ≡ t → accepted (start c) (moves r.kept j) ≡ false
+      by false z = z
+      by true z = absurd (true≢false (sym (accepted-within m r.kept j (start c) h z) ∙ e))
 
-  -- f: the run of the first a
-  module _ (f : Run) (f-is : f ≡ run_of (first_record r) (between 0 a j)) where
-    front-is : f ≡ run_of (first_record r) (take (3 * a) j)
-    front-is = f-is ∙ ap (run_of (first_record r)) (between-front a j)
+  -- the first a
+  abbrev low_run : Run
+  low_run = run_of first (between 0 a j)
 
-    f_made : Made c (moves a j) (eqb f.refusal 0) f.state
-    f_made = subst (λ (x : Run). Made c (moves a j) (eqb x.refusal 0) x.state) (sym front-is) (made_all c right a j (omega (arith, journal-long)) (first_record r) refl)
+  low_made : Made c (moves a j) (eqb low_run.refusal 0) low_run.state
+  low_made =
+      subst (λ (l : List ℕ). Made c (moves a j) (eqb (run_of first l).refusal 0) (run_of first l).state) (sym (between-front a j))
+      (made_all c right a j (omega (arith, journal_long r j free)) first first-is)
 
-    pub f_counts : (calls : List ℕ) → counted_of (first_record r) (between 0 a j) calls ≡ counted_to r a j calls
-    f_counts calls = ap (λ (l : List ℕ). counted_of (first_record r) l calls) (between-front a j)
+  low_counts : (calls : List ℕ) → counted_of first (between 0 a j) calls ≡ counted_to r a j calls
+  low_counts calls = λ i. counted_of (first-is i) (between-front a j i) calls
 
-    pub front_ends : (f.refusal ≡ 0 → ⊥) → (calls : List ℕ) →
-        Reaches r j a b (record { whole = false; low = f.state; high = f.state }) × (counted_of (first_record r) (between 0 a j) calls ≡ counted_to r b j calls)
-    front_ends z calls = (
-      none a (omega arith) f.state f.state (subst (λ (t : Bool). Made c (moves a j) t f.state) (ne_eqb f.refusal 0 z) f_made),
-      f_counts calls ∙ front-counts c right j a b ab (omega (arith, journal-long)) (λ e. z (ap (λ (x : Run). x.refusal) front-is ∙ e)) calls,
-    )
+  pub low-all : (x : Record) → Some x ≡ all_made (run_of first (between 0 a j)) → Made c (moves a j) true x
+  low-all x h = all-of c (moves a j) low_run low_made x h
 
-    -- m: the run of those up to b
-    module _ (z : f.refusal ≡ 0) (m : Run) (m-is : m ≡ run_of f.state (between a b j)) where
-      f_all : Made c (moves a j) true f.state
-      f_all = subst (λ (t : Bool). Made c (moves a j) t f.state) (eq-eqb f.refusal 0 z) f_made
+  pub low-none : None ≡ all_made (run_of first (between 0 a j)) → (calls n : List ℕ) → n ≡ counted_of first (between 0 a j) calls →
+      Reaches r j a b None × (n ≡ counted_to r b j calls)
+  low-none h calls n is = (
+    none a (omega arith) (none-of c (moves a j) low_run low_made h),
+    is ∙ low_counts calls ∙
+        front-counts c right j a b ab (omega (arith, journal_long r j free))
+        (λ e. not-made low_run h ((λ i. (run_of (first-is i) (between-front a j i)).refusal) ∙ e)) calls,
+  )
 
-      m-made : Made c (moves b j) (eqb m.refusal 0) m.state
-      m-made =
-          subst (λ (x : Run). Made c (moves b j) (eqb x.refusal 0) x.state) (sym m-is)
-          (part-made c right j a b ab (omega (arith, journal-long)) f.state f_all)
+  -- those up to b
+  module _ (x : Record) (low : Made c (moves a j) true x) where
+    abbrev high_run : Run
+    high_run = run_of x (between a b j)
 
-      pub middle_counts : (calls : List ℕ) →
-          counted_of f.state (between a b j) (counted_of (first_record r) (between 0 a j) calls) ≡ counted_to r b j calls
-      middle_counts calls =
-          ap (counted_of f.state (between a b j)) (f_counts calls) ∙ part-counts c right j a b ab (omega (arith, journal-long)) f.state f_all calls
+    high_made : Made c (moves b j) (eqb high_run.refusal 0) high_run.state
+    high_made = part-made c right j a b ab (omega (arith, journal_long r j free)) x low
 
-      pub middle_ends : (m.refusal ≡ 0 → ⊥) → Reaches r j a b (record { whole = false; low = f.state; high = f.state })
-      middle_ends y = none b top f.state m.state (subst (λ (t : Bool). Made c (moves b j) t m.state) (ne_eqb m.refusal 0 y) m-made)
+    pub high-all : (y : Record) → Some y ≡ all_made (run_of x (between a b j)) → Made c (moves b j) true y
+    high-all y h = all-of c (moves b j) high_run high_made y h
 
-      -- g: the run of the others
-      module _ (y : m.refusal ≡ 0) (g : Run) (g-is : g ≡ run_of m.state (between b r.kept j)) where
-        m-all : Made c (moves b j) true m.state
-        m-all = subst (λ (t : Bool). Made c (moves b j) t m.state) (eq-eqb m.refusal 0 y) m-made
+    pub high-none : None ≡ all_made (run_of x (between a b j)) → Reaches r j a b None
+    high-none h = none b top (none-of c (moves b j) high_run high_made h)
 
-        pub rest_ends : Reaches r j a b (record { whole = eqb g.refusal 0; low = f.state; high = m.state })
-        rest_ends =
-            record {
-              whole =
-                  ap (λ (x : Run). eqb x.refusal 0) g-is ∙ (part-made c right j b r.kept top journal-long m.state m-all).accepts;
-              low = λ x. f_all.state refl;
-              high = λ x. m-all.state refl;
-            }
+    pub high_counts : (calls n m : List ℕ) → n ≡ counted_of first (between 0 a j) calls → m ≡ counted_of x (between a b j) n → m ≡ counted_to r b j calls
+    high_counts calls n m n-is m-is =
+        m-is ∙ ap (counted_of x (between a b j)) (n-is ∙ low_counts calls) ∙
+        part-counts c right j a b ab (omega (arith, journal_long r j free)) x low calls
+
+    -- the others
+    module _ (y : Record) (high : Made c (moves b j) true y) where
+      abbrev rest_run : Run
+      rest_run = run_of y (between b r.kept j)
+
+      rest_made : Made c (moves r.kept j) (eqb rest_run.refusal 0) rest_run.state
+      rest_made = part-made c right j b r.kept top (journal_long r j free) y high
+
+      pub rest-none : None ≡ all_made (run_of y (between b r.kept j)) → Reaches r j a b None
+      rest-none h = none r.kept (omega arith) (none-of c (moves r.kept j) rest_run rest_made h)
+
+      pub rest-all : (z : Record) → Some z ≡ all_made (run_of y (between b r.kept j)) → Reaches r j a b (Some (record { low = x; high = y }))
+      unfolding Reaches
+      rest-all z h = (sym (all-of c (moves r.kept j) rest_run rest_made z h).accepts, low.state refl, high.state refl)
 
 -- ---- the comparison with the record
 
-module _ (r : Session) (size : Sized r.state) (j : List ℕ) (free : lent_refusal r (length j) ≡ 0) (whole : Bool) (standing : Record)
-    (all : whole ≡ accepted (start (config_of r)) (moves r.kept j))
-    (is : whole ≡ true → standing ≡ encode (run (start (config_of r)) (moves r.state.applied j))) where
-  good : session_ok r ≡ true
-  good = (lent_passed r (length j) free).1
-
-  legal : whole ≡ true → accepted (start (config_of r)) (moves r.state.applied j) ≡ true
-  legal e = accepted-within r.state.applied r.kept j (start (config_of r)) (kept_range r good).0 (sym all ∙ e)
-
-  pub standing-ok : whole ≡ true → state_ok standing ≡ true
-  standing-ok e = given_ok r size good (moves r.state.applied j) (legal e) standing (is e)
-
-  pub found-is : (k : ℕ) (asked : Record) → (whole ≡ true → asked ≡ encode (run (start (config_of r)) (moves k j))) → (x : Found) →
-      Compares whole standing r.state asked x → Replays r j k x
+module _ (r : Session) (size : Sized r.state) (j : List ℕ) (free : lent_refusal r (length j) ≡ 0) where
+  matches-is : (standing : Record) → accepted (start (config_of r)) (moves r.kept j) ≡ true →
+      standing ≡ encode (run (start (config_of r)) (moves r.state.applied j)) → (b : Bool) → b ≡ same.eq-value.it standing r.state → matches r j ≡ b
   unfolding matches replays decode
-  found-is k asked to x w = record { agrees = by whole refl; state = λ e. w.state ∙ to (w.agrees e).0 }
-    where
-      by : (t : Bool) → whole ≡ t → x.agrees ≡ matches r j
-      by true e =
-          alike_is r size good (moves r.state.applied j) (legal e) standing (is e) x.agrees (λ z. (w.agrees z).1) (w.same e) ∙ sym (rw (sym all ∙ e))
-      by false e = (not_agreed x.agrees refl) ∙ sym (rw (sym all ∙ e))
-        where
-          not_agreed : (t : Bool) → x.agrees ≡ t → x.agrees ≡ false
-          not_agreed false z = z
-          not_agreed true z = absurd (true≢false (sym (w.agrees z).0 ∙ e))
+  matches-is standing all is b e =
+      let good = (lent_passed r (length j) free).1 in
+      let exact = state_exact standing r.state in
+      rw all
+      (sym
+      (alike_is r size good (moves r.state.applied j) (accepted-within r.state.applied r.kept j (start (config_of r)) (kept_range r good).0 all) standing is b
+      (λ z. exact.0 (sym e ∙ z)) (λ z. e ∙ exact.1 z)))
+
+  module _ (k : ℕ) where
+    -- not all is accepted
+    pub found-none : (a b : ℕ) → Reaches r j a b None → Replays r j k None
+    unfolding Reaches Replays matches replays
+    found-none a b e = rw e
+
+    -- the standing moves are the later ones
+    module _ (x : Stages) (h : Reaches r j k r.state.applied (Some x)) where
+      pub high-same : true ≡ same.eq-value.it x.high r.state → Replays r j k (Some x.low)
+      unfolding Reaches Replays
+      high-same e = (matches-is x.high h.0 h.2 true e, h.1)
+
+      pub high-other : false ≡ same.eq-value.it x.high r.state → Replays r j k None
+      unfolding Reaches Replays
+      high-other e = matches-is x.high h.0 h.2 false e
+
+    -- the standing moves are the earlier ones
+    module _ (x : Stages) (h : Reaches r j r.state.applied k (Some x)) where
+      pub low-same : true ≡ same.eq-value.it x.low r.state → Replays r j k (Some x.high)
+      unfolding Reaches Replays
+      low-same e = (matches-is x.low h.0 h.1 true e, h.2)
+
+      pub low-other : false ≡ same.eq-value.it x.low r.state → Replays r j k None
+      unfolding Reaches Replays
+      low-other e = matches-is x.low h.0 h.1 false e
 
 -- the farther step
 pub farther-standing : (r : Session) (k : ℕ) → k ≤ r.state.applied → r.state.applied ≡ farther r k

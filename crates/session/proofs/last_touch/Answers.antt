@@ -1,22 +1,22 @@
 -- `session::last_touch` meets its contract.
 -- Assumes nothing.
 use mathlib.Core.Path.{ap, sym, ◌∙◌}
-use Rattle.session.specs.declared.Answer.{Answer}
-use Rattle.session.specs.Contract.{went}
+use Rattle.state.proofs.Refused.{not_none}
+use Rattle.session.specs.Contract.{Answer, answer_of, went}
 use Rattle.session.proofs.LastTouch.{last_none, last-refused, last_some}
 use Rattle.session.proofs.last_touch.Goals as goal
 
 pub returns-then-n-eq0 : goal.returns-then-n-eq0
 returns-then-n-eq0 c = c.nothing.ensures ∙ last_none _ _ c.if-n-eq0.true
 
-pub returns-then-back-ne0 : goal.returns-then-back-ne0
-unfolding went
-returns-then-back-ne0 c = c.nothing-then-back-ne0.ensures ∙ last-refused _ _ (λ e. c.if-back-ne0.true (ap (λ (x : Answer). x.refusal) c.goto-back.ensures ∙ e))
+pub returns-in-Ok : goal.returns-in-Ok
+unfolding answer_of went
+returns-in-Ok c =
+    let gone = c.in-Ok.ensures in
+    last_some _ _ c.if-n-eq0.false (sym (ap (λ (x : Answer). x.refusal) gone)) _ (ap (λ (x : Answer). x.session.state) gone) _
+    (rw (← c.at-in-Ok-2.ensures, ← c.at-in-Ok.ensures, ← c.at.ensures) c.touched.ensures)
 
-pub returns : goal.returns
-unfolding went
-returns c =
-    let gone = c.goto-back in
-    let number = sym (ap (λ (x : Answer). x.refusal) gone.ensures) ∙ c.if-back-ne0.false in
-    last_some _ _ c.if-n-eq0.false number _ (ap (λ (x : Answer). x.session.state) gone.ensures) c.make-made.result
-    (rw (← c.get-3.ensures, ← c.get-2.ensures, ← c.get.ensures) c.make-made.ensures)
+pub returns-in-Err : goal.returns-in-Err
+unfolding answer_of went
+returns-in-Err c =
+    c.nothing-in-Err.ensures ∙ last-refused _ _ (λ e. not_none c.in-Err.field-0 (ap (λ (x : Answer). x.refusal) c.in-Err.ensures ∙ e))

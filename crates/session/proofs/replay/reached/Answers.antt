@@ -1,63 +1,59 @@
 -- `session::replay::reached` meets its contract.
 -- Assumes nothing.
-use Prim.Native.Nat.{ℕ}
-use mathlib.Core.List.{List}
-use mathlib.Core.Path.{ap, ◌∙◌}
 use native.Mathlib.Omega.{arith}
-use Rattle.state.specs.declared.State.{State}
-use Rattle.step.specs.Model.Moves.{run_of, counted_of}
-use Rattle.session.specs.Model.Replay.{between}
-use Rattle.session.proofs.Found.{journal-long, front_ends, middle_counts, middle_ends, rest_ends}
+use Rattle.session.proofs.Found.{journal_long, low-all, low-none, high-all, high-none, high_counts, rest-none, rest-all}
 use Rattle.session.proofs.replay.reached.Goals as goal
 
-pub part-front-requires : goal.part-front-requires
-part-front-requires c =
-    let t = c in
-    let long = journal-long t.args.session t.args.journal.now t.requires.0 _ _ t.requires.1 t.requires.2 in
-    (omega arith, omega (arith, t.requires.1, t.requires.2, long))
+pub part-requires : goal.part-requires
+part-requires c =
+    let q = c.requires in
+    (omega arith, omega (arith, q.1, q.2, journal_long _ _ q.0))
 
-pub part-middle-requires : goal.part-middle-requires
-part-middle-requires c =
-    let t = c in
-    let long = journal-long t.args.session t.args.journal.now t.requires.0 _ _ t.requires.1 t.requires.2 in
-    (t.requires.1, omega (arith, t.requires.2, long))
+pub returns-in_err-low : goal.returns-in_err-low
+returns-in_err-low c =
+    let a = c.args in
+    let q = c.requires in
+    let e = low-none a.session a.journal.now q.0 a.a a.b q.1 q.2 _ c.start-first.ensures c.in_err-low.ensures.run a.calls.now _ c.in_err-low.ensures.calls in
+    rw c.from_residual.ensures (record { states = e.0; calls = e.1 })
 
-pub part-rest-requires : goal.part-rest-requires
-part-rest-requires c = let t = c in (t.requires.2, journal-long t.args.session t.args.journal.now t.requires.0 _ _ t.requires.1 t.requires.2)
+pub part-requires-2 : goal.part-requires-2
+part-requires-2 c =
+    let q = c.requires in
+    (q.1, omega (arith, q.2, journal_long _ _ q.0))
 
-pub shape_of-calls-then-middle-eq0 : goal.shape_of-calls-then-middle-eq0
-shape_of-calls-then-middle-eq0 c = omega (arith, c, c)
+pub returns-in_err-high : goal.returns-in_err-high
+returns-in_err-high c =
+    let a = c.args in
+    let q = c.requires in
+    let low = low-all a.session a.journal.now q.0 a.a a.b q.1 q.2 _ c.start-first.ensures c.in_ok-low.low c.in_ok-low.ensures.run in
+    rw c.from_residual-in_err-high.ensures
+    (record {
+      states = high-none a.session a.journal.now q.0 a.a a.b q.1 q.2 _ c.start-first.ensures _ low c.in_err-high.ensures.run;
+      calls = high_counts a.session a.journal.now q.0 a.a a.b q.1 q.2 _ c.start-first.ensures _ low a.calls.now _ _ c.in_ok-low.ensures.calls c.in_err-high.ensures.calls;
+    })
 
-pub returns-then-middle-eq0 : goal.returns-then-middle-eq0
-returns-then-middle-eq0 c =
-    let t = c in
-    let j : List ℕ = t.args.journal.now in
-    let a : ℕ = t.args.a in
-    let first = c.start-first in
-    let front = c.part-front in
-    let middle = c.part-middle in
-    let f = front.ensures.run ∙ ap (λ (s : State). run_of s (between 0 a j)) first.ensures in
-    let n = front.ensures.calls ∙ ap (λ (s : State). counted_of s (between 0 a j) t.args.calls.now) first.ensures in (record { states = rest_ends t.args.session j t.requires.0 a t.args.b t.requires.1 t.requires.2 front.result f c.if-front-eq0.true middle.result middle.ensures.run c.if-middle-eq0.true c.part-rest.result c.part-rest.ensures.run; calls = middle.ensures.calls ∙ ap (counted_of front.result.state (between a t.args.b j)) n ∙ middle_counts t.args.session j t.requires.0 a t.args.b t.requires.1 t.requires.2 front.result f c.if-front-eq0.true middle.result middle.ensures.run t.args.calls.now })
+pub part-requires-3 : goal.part-requires-3
+part-requires-3 c = (c.requires.2, journal_long _ _ c.requires.0)
 
-pub returns-else-middle-eq0 : goal.returns-else-middle-eq0
-returns-else-middle-eq0 c =
-    let t = c in
-    let j : List ℕ = t.args.journal.now in
-    let a : ℕ = t.args.a in
-    let first = c.start-first in
-    let front = c.part-front in
-    let middle = c.part-middle in
-    let f = front.ensures.run ∙ ap (λ (s : State). run_of s (between 0 a j)) first.ensures in
-    let n = front.ensures.calls ∙ ap (λ (s : State). counted_of s (between 0 a j) t.args.calls.now) first.ensures in (record { states = middle_ends t.args.session j t.requires.0 a t.args.b t.requires.1 t.requires.2 front.result f c.if-front-eq0.true middle.result middle.ensures.run c.if-middle-eq0.false; calls = middle.ensures.calls ∙ ap (counted_of front.result.state (between a t.args.b j)) n ∙ middle_counts t.args.session j t.requires.0 a t.args.b t.requires.1 t.requires.2 front.result f c.if-front-eq0.true middle.result middle.ensures.run t.args.calls.now })
+pub returns-in_err-part : goal.returns-in_err-part
+returns-in_err-part c =
+    let a = c.args in
+    let q = c.requires in
+    let low = low-all a.session a.journal.now q.0 a.a a.b q.1 q.2 _ c.start-first.ensures c.in_ok-low.low c.in_ok-low.ensures.run in
+    let high = high-all a.session a.journal.now q.0 a.a a.b q.1 q.2 _ c.start-first.ensures _ low c.in_ok-high.high c.in_ok-high.ensures.run in
+    rw c.from_residual-in_err-part.ensures
+    (record {
+      states = rest-none a.session a.journal.now q.0 a.a a.b q.1 q.2 _ c.start-first.ensures _ low _ high c.in_err-part.ensures.run;
+      calls = high_counts a.session a.journal.now q.0 a.a a.b q.1 q.2 _ c.start-first.ensures _ low a.calls.now _ _ c.in_ok-low.ensures.calls c.in_ok-high.ensures.calls;
+    })
 
-pub returns-else-front-eq0 : goal.returns-else-front-eq0
-returns-else-front-eq0 c =
-    let t = c in
-    let j : List ℕ = t.args.journal.now in
-    let a : ℕ = t.args.a in
-    let first = c.start-first in
-    let front = c.part-front in
-    let f = front.ensures.run ∙ ap (λ (s : State). run_of s (between 0 a j)) first.ensures in
-    let n = front.ensures.calls ∙ ap (λ (s : State). counted_of s (between 0 a j) t.args.calls.now) first.ensures in
-    let e = front_ends t.args.session j t.requires.0 a t.args.b t.requires.1 t.requires.2 front.result f c.if-front-eq0.false t.args.calls.now in
-    (record { states = e.0; calls = n ∙ e.1 })
+pub returns : goal.returns
+returns c =
+    let a = c.args in
+    let q = c.requires in
+    let low = low-all a.session a.journal.now q.0 a.a a.b q.1 q.2 _ c.start-first.ensures c.in_ok-low.low c.in_ok-low.ensures.run in
+    let high = high-all a.session a.journal.now q.0 a.a a.b q.1 q.2 _ c.start-first.ensures _ low c.in_ok-high.high c.in_ok-high.ensures.run in
+    record {
+      states = rest-all a.session a.journal.now q.0 a.a a.b q.1 q.2 _ c.start-first.ensures _ low _ high _ c.in_ok-part.ensures.run;
+      calls = high_counts a.session a.journal.now q.0 a.a a.b q.1 q.2 _ c.start-first.ensures _ low a.calls.now _ _ c.in_ok-low.ensures.calls c.in_ok-high.ensures.calls;
+    }

@@ -1,50 +1,40 @@
 -- `session::replay::replayed` meets its contract.
 -- Assumes nothing.
-use Prim.Native.Nat.{ℕ}
-use mathlib.Core.Path.{ap, ◌∙◌}
-use native.Mathlib.Omega.{arith}
+use mathlib.Core.Path.{sym, ◌∙◌}
 use Rattle.state.proofs.Sized.{session_sized}
-use Rattle.session.specs.Model.Replay.{counted_to}
 use Rattle.session.proofs.Answers.{lent_passed}
-use Rattle.session.proofs.Found.{state-right, kept_range, standing-ok, found-is, farther-standing, farther-step}
+use Rattle.session.proofs.Found.{kept_range, found-none, high-same, high-other, low-same, low-other}
 use Rattle.session.proofs.replay.replayed.Goals as goal
 
-pub reached-found-requires : goal.reached-found-requires
-reached-found-requires c =
-    let t = c in
-    (t.requires.0, c.if-k-n.true, (kept_range t.args.session (lent_passed _ _ t.requires.0).1).0)
+pub reached-requires : goal.reached-requires
+reached-requires c = (c.requires.0, c.if-k-n.true, (kept_range c.args.session (lent_passed _ _ c.requires.0).1).0)
 
-pub compared-requires : goal.compared-requires
-compared-requires c =
-    let t = c in
-    let r = t.args.session in
-    let found = c.reached-found in (
-      standing-ok r (session_sized t.well_formed.0) t.args.journal.now t.requires.0 found.result.whole found.result.high found.ensures.states.whole found.ensures.states.high,
-      state-right r (lent_passed _ _ t.requires.0).1,
-    )
+pub returns-in_err-found-clause-state : goal.returns-in_err-found-clause-state
+returns-in_err-found-clause-state c =
+    rw c.from_residual.ensures
+    (found-none c.args.session (session_sized c.well_formed.0) c.args.journal.now c.requires.0 c.args.k _ _ c.in_err-found.ensures.states)
 
-pub returns-then-k-n : goal.returns-then-k-n
-returns-then-k-n c =
-    let t = c in
-    let r = t.args.session in
-    let found = c.reached-found in
-    let w = found.ensures.states in (record { state = found-is r (session_sized t.well_formed.0) t.args.journal.now t.requires.0 found.result.whole found.result.high w.whole w.high t.args.k found.result.low w.low c.compared.result c.compared.ensures; calls = found.ensures.calls ∙ ap (λ (n : ℕ). counted_to r n t.args.journal.now t.args.calls.now) (farther-standing r t.args.k c.if-k-n.true) })
+pub returns-then-eq-clause-state : goal.returns-then-eq-clause-state
+returns-then-eq-clause-state c =
+    high-same c.args.session (session_sized c.well_formed.0) c.args.journal.now c.requires.0 c.args.k _ c.in_ok-found.ensures.states
+    (sym c.if-eq.true ∙ c.eq.ensures)
 
-pub reached-found-requires-2 : goal.reached-found-requires-2
-reached-found-requires-2 c = let t = c in (t.requires.0, omega (arith, c.if-k-n.false), t.requires.1)
+pub returns-else-eq-clause-state : goal.returns-else-eq-clause-state
+returns-else-eq-clause-state c =
+    high-other c.args.session (session_sized c.well_formed.0) c.args.journal.now c.requires.0 c.args.k _ c.in_ok-found.ensures.states
+    (sym c.if-eq.false ∙ c.eq.ensures)
 
-pub compared-requires-2 : goal.compared-requires-2
-compared-requires-2 c =
-    let t = c in
-    let r = t.args.session in
-    let found = c.reached-found-2 in (
-      standing-ok r (session_sized t.well_formed.0) t.args.journal.now t.requires.0 found.result.whole found.result.low found.ensures.states.whole found.ensures.states.low,
-      state-right r (lent_passed _ _ t.requires.0).1,
-    )
+pub returns-in_err-found-2-clause-state : goal.returns-in_err-found-2-clause-state
+returns-in_err-found-2-clause-state c =
+    rw c.from_residual-in_err-found-2.ensures
+    (found-none c.args.session (session_sized c.well_formed.0) c.args.journal.now c.requires.0 c.args.k _ _ c.in_err-found-2.ensures.states)
 
-pub returns : goal.returns
-returns c =
-    let t = c in
-    let r = t.args.session in
-    let found = c.reached-found-2 in
-    let w = found.ensures.states in (record { state = found-is r (session_sized t.well_formed.0) t.args.journal.now t.requires.0 found.result.whole found.result.low w.whole w.low t.args.k found.result.high w.high c.compared-2.result c.compared-2.ensures; calls = found.ensures.calls ∙ ap (λ (n : ℕ). counted_to r n t.args.journal.now t.args.calls.now) (farther-step r t.args.k c.if-k-n.false) })
+pub returns-then-eq-2-clause-state : goal.returns-then-eq-2-clause-state
+returns-then-eq-2-clause-state c =
+    low-same c.args.session (session_sized c.well_formed.0) c.args.journal.now c.requires.0 c.args.k _ c.in_ok-found-2.ensures.states
+    (sym c.if-eq-2.true ∙ c.eq-2.ensures)
+
+pub returns-else-eq-2-clause-state : goal.returns-else-eq-2-clause-state
+returns-else-eq-2-clause-state c =
+    low-other c.args.session (session_sized c.well_formed.0) c.args.journal.now c.requires.0 c.args.k _ c.in_ok-found-2.ensures.states
+    (sym c.if-eq-2.false ∙ c.eq-2.ensures)
