@@ -1,17 +1,10 @@
 // Go executes the line at which the processor stands; a move is a go or a call.
 ghost use Rattle.std.specs.Prelude.{◌≡◌, true, false};
-ghost use Rattle.step.specs.Model.Moves.{nothing_there, outcome, line_outcome, act_outcome};
+ghost use Rattle.step.specs.Model.Moves.{outcome, line_outcome, act_outcome};
 
 use crate::registers::stays;
 use crate::{Effect, Outcome, View, call, lock, ready, trylock, unlock};
 use state::Position;
-use state::queues::Front;
-
-fn is_empty(queue: Option<Front>) -> bool
-    ensures { result ≡ nothing_there queue }
-{
-    queue.is_none()
-}
 
 // No rule can be broken, and the mutex stays.
 fn keeps(effect: Effect) -> Outcome
@@ -37,14 +30,13 @@ fn writes(broken: bool, effect: Effect) -> Outcome
 
 // The line at which the processor stands; at App, and at no line, nothing happens. With t threads a rule is broken where the count would leave 0 to t + 1,
 // where the own sequence number would pass 4,000, and where L9 finds an empty queue.
+#[tactic(auto, unfolding(crate::specs::Model::Moves::line_outcome, crate::specs::Model::Moves::line_effect))]
 pub(crate) fn line(t: u8, v: View) -> Outcome
     ensures { result ≡ line_outcome t v }
 {
     let r = v.proc;
     let x = v.mutex;
-    let queue = v.queue;
-    let position = r.position;
-    match position {
+    match r.position {
         Position::CI2 => keeps(ready::ci2(v)),
         Position::CI3 => keeps(ready::ci3(v)),
         Position::L1 => writes(t < x.count, lock::l1(v)),
@@ -53,7 +45,7 @@ pub(crate) fn line(t: u8, v: View) -> Outcome
         Position::L6 => keeps(lock::l6(v)),
         Position::L7 => keeps(lock::l7(v)),
         Position::L8 => writes(false, lock::l8(v)),
-        Position::L9 => writes(is_empty(queue), lock::l9(v)),
+        Position::L9 => writes(v.queue.is_none(), lock::l9(v)),
         Position::L10 => keeps(lock::l10(v)),
         Position::TL1 => writes(false, trylock::tl1(v)),
         Position::GT1 => keeps(trylock::gt1(v)),
@@ -74,6 +66,7 @@ pub(crate) fn line(t: u8, v: View) -> Outcome
 }
 
 // Action 0 is go, 1 to 6 are the calls.
+#[tactic(auto, unfolding(crate::specs::Model::Moves::act_outcome, crate::specs::Model::Moves::act_effect, crate::specs::Model::Moves::line_outcome))]
 pub(crate) fn act(t: u8, action: u8, operand: u8, v: View) -> Outcome
     ensures { result ≡ act_outcome t action operand v }
 {
