@@ -1,9 +1,6 @@
 // A line in a lent buffer, fed byte by byte, so that it can span reads.
 ghost use Rattle.std.specs.Prelude.{◌≡◌, length, set};
-ghost use Rattle.command.specs.Model.Line.{empty_line, fed, command_in};
-
-use crate::Command;
-use crate::reading::command_of;
+ghost use Rattle.command.specs.Model.Line.{empty_line, fed};
 
 // How many bytes the buffer holds of it; long: there were more, and they are dropped.
 #[derive(Clone, Copy)]
@@ -33,19 +30,5 @@ impl Line {
             return Line { len: len + 1, long };
         }
         Line { len, long: true }
-    }
-
-    pub fn command(self, bytes: &[u8]) -> Command
-        ensures { result ≡ command_in self bytes.now }
-    {
-        let len = self.len;
-        let long = self.long;
-        if long {
-            return Command::Unknown;
-        }
-        if bytes.len() < len {
-            return Command::Unknown;
-        }
-        command_of(&bytes[..len])
     }
 }
