@@ -69,26 +69,25 @@ printed out out' x n e h =
     let k = ap (λ (b : Buffer). b.len) e ∙ add-len (buffer_of out 0) x (omega arith) in
     (omega arith, ap (λ (b : Buffer). take b.len b.bytes) e ∙ rw m (take-paste out 0 x (length x) (omega arith) (omega arith) ∙ take-length x))
 
--- a line that counts: no response is longer than `longest`, and no more than `seen` bytes of a line are looked at
-module _ (p : Program) (longest seen : ℕ) (fits : (l : List ℕ) (k : p.Context) → length (p.response l k) ≤ longest)
-    (read : (n : ℕ) (l : List ℕ) (k : p.Context) → seen ≤ n → (p.response (take n l) k ≡ p.response l k) × (p.after (take n l) k ≡ p.after l k)) where
-  pub text_fits : (l : List ℕ) (k : p.Context) (out out' : List ℕ) (n : ℕ) → longest ≤ length out → buffer_of out' n ≡ add (buffer_of out 0) (p.response l k) → n ≤ length out'
-  text_fits l k out out' n h e = let f = fits l k in (printed out out' (p.response l k) n e (omega arith)).0
+pub text_fits : (out out' x : List ℕ) (n : ℕ) → length x ≤ length out → buffer_of out' n ≡ add (buffer_of out 0) x → n ≤ length out'
+text_fits out out' x n h e = (printed out out' x n e h).0
 
-  pub turn_answered : (k k' : p.Context) (input : Input) (chunk bytes : List ℕ) (r : NextLine) (chunk' bytes' out out' : List ℕ) (n : ℕ) → seen ≤ length bytes → longest ≤ length out
-      → Next input chunk bytes r chunk' bytes' → r.counts ≡ true → buffer_of out' n ≡ add (buffer_of out 0) (p.response (take r.line.len bytes') k)
-      → k' ≡ p.after (take r.line.len bytes') k → Turn p input chunk k r.input chunk' k' (take n out') r.ended
-  turn_answered k k' input chunk bytes r chunk' bytes' out out' n b h t s e a =
-      let c : counts r.ended t.line ≡ true = sym t.some ∙ s in
-      let f = fits (take r.line.len bytes') k in
-      let w = held_front t.line bytes r.line bytes' t.held in
-      let d = read (length bytes) t.line k b in
-      record {
-        line = t.line;
-        consumed = t.consumed;
-        all = rw c ((printed out out' _ n e (omega arith)).1 ∙ ap (λ (l : List ℕ). p.response l k) w ∙ d.0);
-        context = rw c (a ∙ ap (λ (l : List ℕ). p.after l k) w ∙ d.1);
-      }
+-- a line that counts
+pub turn_answered : (p : Program) (k k' : p.Context) (input : Input) (chunk bytes : List ℕ) (r : NextLine) (chunk' bytes' out out' : List ℕ) (n : ℕ)
+    → ((l : List ℕ) (q : p.Context) → length (p.response l q) ≤ length out)
+    → ((l : List ℕ) (q : p.Context) → (p.response (take (length bytes) l) q ≡ p.response l q) × (p.after (take (length bytes) l) q ≡ p.after l q))
+    → Next input chunk bytes r chunk' bytes' → r.counts ≡ true → buffer_of out' n ≡ add (buffer_of out 0) (p.response (take r.line.len bytes') k)
+    → k' ≡ p.after (take r.line.len bytes') k → Turn p input chunk k r.input chunk' k' (take n out') r.ended
+turn_answered p k k' input chunk bytes r chunk' bytes' out out' n fits seen t s e a =
+    let c : counts r.ended t.line ≡ true = sym t.some ∙ s in
+    let w = held_front t.line bytes r.line bytes' t.held in
+    let d = seen t.line k in
+    record {
+      line = t.line;
+      consumed = t.consumed;
+      all = rw c ((printed out out' _ n e (fits (take r.line.len bytes') k)).1 ∙ ap (λ (l : List ℕ). p.response l k) w ∙ d.0);
+      context = rw c (a ∙ ap (λ (l : List ℕ). p.after l k) w ∙ d.1);
+    }
 
 -- one that does not
 pub turn_none : (p : Program) (k : p.Context) (input : Input) (chunk bytes : List ℕ) (r : NextLine) (chunk' bytes' : List ℕ) → Next input chunk bytes r chunk' bytes' → r.counts ≡ false

@@ -9,24 +9,15 @@ use std::io::Stdin;
 
 const STDOUT: i32 = 1;
 
-// What answers lines. program: the text for a line, and what the line leaves; context: what is held; longest: no response has more bytes; seen: no more bytes of
-// a line are looked at.
+// What answers lines. program: the text for a line, and what the line leaves; context: what is held.
 pub trait Answering {
     ghost program: { Program };
 
     ghost context: { Self → program.Context };
 
-    ghost longest: { ℕ };
-
-    ghost seen: { ℕ };
-
     fn respond(&mut self, line: &[u8], page: &mut Page)
         ensures page_after { page.new ≡ written page.old (program.response line.now (context self.old)) }
         ensures self_after { context self.new ≡ program.after line.now (context self.old) };
-
-    ghost fits: { (l : List ℕ) (k : program.Context) → length (program.response l k) ≤ longest };
-
-    ghost read: { (n : ℕ) (l : List ℕ) (k : program.Context) → seen ≤ n → (program.response (take n l) k ≡ program.response l k) × (program.after (take n l) k ≡ program.after l k) };
 }
 
 // What a turn leaves, beside what is held. written: the bytes of the output that were handed to write; ok: they were written; ended: the input ended with it.
@@ -58,7 +49,8 @@ fn turn<A: Answering>(
     bytes: &mut [u8],
     out: &mut [u8],
 ) -> Progress
-    requires { (A.seen ≤ length bytes.old) × (A.longest ≤ length out.old) }
+    requires fits { (l : List ℕ) (k : A.program.Context) → length (A.program.response l k) ≤ length out.old }
+    requires seen { (l : List ℕ) (k : A.program.Context) → (A.program.response (take (length bytes.old) l) k ≡ A.program.response l k) × (A.program.after (take (length bytes.old) l) k ≡ A.program.after l k) }
     ensures { Turn A.program input chunk.old (A.context program.old) result.input chunk.new (A.context program.new) (take result.written out.new) result.ended }
 {
     let next = next_line(stdin, input, chunk, bytes);
@@ -79,7 +71,7 @@ fn turn<A: Answering>(
     }
 }
 
-// The whole run, until the input has ended or a write has failed.
+// The whole run, where the output has room for any response and a line is answered as its front that the buffer holds: until the input has ended or a write has failed.
 // A proved loop has to end, so the lines are counted up to a number that no run reaches.
 pub fn run<A: Answering>(
     stdin: Stdin,
@@ -88,7 +80,8 @@ pub fn run<A: Answering>(
     bytes: &mut [u8],
     out: &mut [u8],
 )
-    requires { (A.seen ≤ length bytes.old) × (A.longest ≤ length out.old) }
+    requires fits { (l : List ℕ) (k : A.program.Context) → length (A.program.response l k) ≤ length out.old }
+    requires seen { (l : List ℕ) (k : A.program.Context) → (A.program.response (take (length bytes.old) l) k ≡ A.program.response l k) × (A.program.after (take (length bytes.old) l) k ≡ A.program.after l k) }
     ensures { Run A.program (A.context program.old) }
 {
     let mut input = unread();
