@@ -3,6 +3,7 @@
 use Prim.Native.Nat.{ℕ, zero, suc, ◌-◌, ◌≤◌, ◌<◌}
 use mathlib.Core.Bool.{Bool, true, false}
 use mathlib.Core.List.{List, [], ◌∷◌}
+use Rattle.std.proofs.Common.{Option, Some, None}
 use mathlib.Core.Path.{◌≡◌, refl, ap, sym}
 use native.Mathlib.Numerals.{add-one}
 use native.Mathlib.Omega.{arith}
@@ -10,9 +11,7 @@ use lib.Dec.{eqb}
 use lib.ListN.{length, get_or}
 use borrow.Author.Tests.{lt-ltb, ne_eqb}
 use Rattle.state.specs.declared.Mutex.{Mutex}
-use Rattle.state.specs.declared.queues.Taken.{Taken}
-use Rattle.state.specs.declared.queues.Taken.TheVariants as answer
-use Rattle.state.specs.declared.queues.Taken.TheVariants.{Nothing}
+use Rattle.state.specs.declared.queues.Front.{Front}
 use Rattle.state.specs.Association.{encode, processor_record, mutex_record, token_record, queue_at}
 use Rattle.step.specs.declared.View as code
 use Rattle.step.specs.declared.Effect.{Effect}
@@ -34,8 +33,8 @@ use Rattle.shown.proofs.Regular.{Regular, Registers}
 use Rattle.agreement.proofs.Index.{next-is}
 
 -- what taking from a queue finds
-abbrev pub found : List ℕ → Taken
-found q = if_empty q Nothing (λ k rest. answer.Thread k (first rest))
+abbrev pub found : List ℕ → Option Front
+found q = if_empty q None (λ k rest. Some (record { thread = k; rest = first rest }))
 
 -- what the code sees of the record of s
 abbrev pub seen : reference.State → ℕ → ℕ → code.View

@@ -3,6 +3,7 @@
 use Prim.Native.Nat.{ℕ, zero, suc, ◌≤◌, ◌<◌}
 use mathlib.Core.Bool.{Bool, true, false, ◌&&◌}
 use mathlib.Core.List.{List, [], ◌∷◌, ◌++◌}
+use Rattle.std.proofs.Common.{Some, None}
 use mathlib.Core.Logic.{◌≢◌}
 use mathlib.Core.Path.{◌≡◌, refl, ap, sym, ◌∙◌}
 use native.Mathlib.Omega.{arith}
@@ -21,8 +22,6 @@ use Rattle.state.specs.declared.Thread.{Thread}
 use Rattle.state.specs.declared.Processor.{Processor}
 use Rattle.state.specs.declared.Mutex.{Mutex}
 use Rattle.state.specs.declared.State.{State}
-use Rattle.state.specs.declared.queues.Taken.TheVariants as answer
-use Rattle.state.specs.declared.queues.Taken.TheVariants.{Nothing}
 use Rattle.state.specs.Model.Access.{taken}
 use Rattle.state.specs.Record.{zero_thread, zero_processor, zero_mutex, thread_of, processor_of, mutex_of, first_of}
 use Rattle.state.specs.Association.{encode, processor_record, mutex_record, thread_record, thread_row, queue_at, ready_index, queued_as}
@@ -158,11 +157,11 @@ module _ (s : reference.State) (h : Fits s) where
       queue-row q k (rw e (occurs_here k a b)) ∙ ap (queued_as q) (ap (behind k) e ∙ behind-at k a b (rw e at (queue-once q k)))
 
   -- what taking from a queue finds
-  pub read_taken : (q : ℕ) → taken (encode s).chains q ≡ if_empty (queue_at s q) Nothing (λ k rest. answer.Thread k (first rest))
+  pub read_taken : (q : ℕ) → taken (encode s).chains q ≡ if_empty (queue_at s q) None (λ k rest. Some (record { thread = k; rest = first rest }))
   unfolding taken
   read_taken q = by (queue_at s q) refl
     where
-      by : (a : List ℕ) → queue_at s q ≡ a → taken (encode s).chains q ≡ if_empty (queue_at s q) Nothing (λ k rest. answer.Thread k (first rest))
+      by : (a : List ℕ) → queue_at s q ≡ a → taken (encode s).chains q ≡ if_empty (queue_at s q) None (λ k rest. Some (record { thread = k; rest = first rest }))
       by [] e = rw (e, eq-eqb (first_of (encode s) q) 0 (first-none q e))
       by (k ∷ rest) e =
           let r : In s.T k = queue-thread q k (rw e (occurs_here k [] rest)) in

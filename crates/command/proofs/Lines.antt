@@ -194,8 +194,8 @@ spell-length (Goto k) = omega (arith, wide_field-length k)
 spell-length Show = omega arith
 spell-length Unknown = omega arith
 
--- a line over 64 bytes is no command
-pub long-unknown : (l : List ℕ) → 64 < length l → command_of l ≡ Unknown
+-- a line over 25 bytes is no command
+pub long-unknown : (l : List ℕ) → 25 < length l → command_of l ≡ Unknown
 long-unknown l h = go (read l)
   where
     go : (command_of l ≡ Unknown) ⊎ Written l (command_of l) → command_of l ≡ Unknown

@@ -1,9 +1,6 @@
 // A line in a lent buffer, fed byte by byte, so that it can span reads.
 ghost use Rattle.std.specs.Prelude.{◌≡◌, length, set};
-ghost use Rattle.command.specs.Model.Line.{empty_line, fed, command_in};
-
-use crate::Command;
-use crate::reading::command_of;
+ghost use Rattle.command.specs.Model.Line.{empty_line, fed};
 
 // How many bytes the buffer holds of it; long: there were more, and they are dropped.
 #[derive(Clone, Copy)]
@@ -36,18 +33,6 @@ impl Line {
         Line {
             len: self.len,
             long: true,
-        }
-    }
-
-    pub fn command(self, bytes: &[u8]) -> Command
-        ensures { result ≡ command_in self bytes.now }
-    {
-        if self.long {
-            return Command::Unknown;
-        }
-        match bytes.get(..self.len) {
-            Some(line) => command_of(line),
-            None => Command::Unknown,
         }
     }
 }

@@ -32,6 +32,10 @@ module _ (test : ℕ → Bool) where
   pub each_next₀ : (i : ℕ) (ok b : Bool) → ok ≡ each test 0 i → b ≡ test i → ok && b ≡ each test 0 (i + 1)
   each_next₀ i ok b e h = rw (e, h, add-one) (sym (last 0 i i (omega arith)))
 
+  -- one turn of a loop that counts up from lo
+  pub each_more : (lo i : ℕ) (ok b : Bool) → ok ≡ each test lo i → b ≡ test (lo + i) → ok && b ≡ each test lo (i + 1)
+  each_more lo i ok b e h = rw (e, h, add-one) (sym (last lo i (lo + i) refl))
+
   pub each-end : (lo i n : ℕ) (ok : Bool) → ok ≡ each test lo i → i ≡ n → ok ≡ each test lo n
   each-end lo i n ok e h = rw (← h) e
 

@@ -1,22 +1,54 @@
-// The zero records, and reads and writes of the record's arrays at any index: past the end a read gives zero and a write does nothing.
-ghost use Rattle.std.specs.Prelude.{◌≡◌, set};
-ghost use Rattle.state.specs.Record.{zero_processor, zero_mutex, zero_thread, processor_in, mutex_in, processor_of};
+// The record's zero values, and reads and writes of its arrays at any index: past the end a read gives zero and a write does nothing.
+ghost use Rattle.std.specs.Prelude.{◌≡◌, get_or, set};
+ghost use Rattle.state.specs.Record.{zero_token, zero_processor, zero_mutex, zero_thread, processor_of};
 
 use crate::{Mutex, Processor, State, Thread, Token};
 
-impl Processor {
-    pub fn zero() -> Processor
-        ensures { result ≡ zero_processor }
-    {
+// What stands for none.
+pub trait Zero: Copy {
+    ghost zero: { Self };
+
+    fn zero() -> Self
+        ensures { result ≡ zero };
+}
+
+impl Zero for u8 {
+    ghost zero = { 0 };
+
+    fn zero() -> u8 {
+        0
+    }
+}
+
+impl Zero for u16 {
+    ghost zero = { 0 };
+
+    fn zero() -> u16 {
+        0
+    }
+}
+
+impl Zero for Token {
+    ghost zero = { zero_token };
+
+    fn zero() -> Token {
+        Token {
+            processor: 0,
+            sequence: 0,
+        }
+    }
+}
+
+impl Zero for Processor {
+    ghost zero = { zero_processor };
+
+    fn zero() -> Processor {
         Processor {
             position: 0,
             current: 0,
             transit: 0,
             mutex: 0,
-            observed: Token {
-                processor: 0,
-                sequence: 0,
-            },
+            observed: Token::zero(),
             sequence: 0,
             answer: 0,
             probe: 0,
@@ -24,25 +56,22 @@ impl Processor {
     }
 }
 
-impl Mutex {
-    pub fn zero() -> Mutex
-        ensures { result ≡ zero_mutex }
-    {
+impl Zero for Mutex {
+    ghost zero = { zero_mutex };
+
+    fn zero() -> Mutex {
         Mutex {
             count: 0,
             owner: 0,
-            token: Token {
-                processor: 0,
-                sequence: 0,
-            },
+            token: Token::zero(),
         }
     }
 }
 
-impl Thread {
-    pub fn zero() -> Thread
-        ensures { result ≡ zero_thread }
-    {
+impl Zero for Thread {
+    ghost zero = { zero_thread };
+
+    fn zero() -> Thread {
         Thread {
             status: 0,
             holder: 0,
@@ -51,51 +80,24 @@ impl Thread {
     }
 }
 
-pub fn processor_at(processors: [Processor; 9], p: u8) -> Processor
-    ensures { result ≡ processor_in processors p }
+pub fn at<T: Zero>(xs: &[T], i: usize) -> T
+    ensures { result ≡ get_or xs.now i T.zero }
 {
-    let i = p as usize;
-    if i < 9 {
-        processors[i]
-    } else {
-        Processor::zero()
-    }
+    if i < xs.len() { xs[i] } else { T::zero() }
 }
 
-pub fn with_processor(processors: [Processor; 9], p: u8, r: Processor) -> [Processor; 9]
-    ensures { result ≡ set processors p r }
+pub fn put<T: Zero>(xs: &mut [T], i: usize, x: T)
+    ensures { xs.new ≡ set xs.old i x }
 {
-    let i = p as usize;
-    let mut next = processors;
-    if i < 9 {
-        next[i] = r;
+    if i < xs.len() {
+        xs[i] = x;
     }
-    next
-}
-
-pub fn mutex_at(mutexes: [Mutex; 9], m: u8) -> Mutex
-    ensures { result ≡ mutex_in mutexes m }
-{
-    let i = m as usize;
-    if i < 9 { mutexes[i] } else { Mutex::zero() }
-}
-
-pub fn with_mutex(mutexes: [Mutex; 9], m: u8, x: Mutex) -> [Mutex; 9]
-    ensures { result ≡ set mutexes m x }
-{
-    let i = m as usize;
-    let mut next = mutexes;
-    if i < 9 {
-        next[i] = x;
-    }
-    next
 }
 
 impl State {
     pub fn processor(self, p: u8) -> Processor
         ensures { result ≡ processor_of self p }
     {
-        let processors = self.processors;
-        processor_at(processors, p)
+        at(&self.processors, p as usize)
     }
 }

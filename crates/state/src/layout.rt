@@ -3,7 +3,7 @@ ghost use Rattle.std.specs.Prelude.{◌≡◌};
 ghost use Rattle.reference.specs.Picture.{threads_at, picture_bytes};
 
 // How many bytes each part takes; no picture has more than PICTURE.
-#[derive(Clone, Copy)]
+#[derive(Clone, Copy, Debug, PartialEq, Eq)]
 pub struct Width {}
 
 impl Width {

@@ -2,14 +2,13 @@
 #![tactic(auto)]
 
 pub mod access;
-pub mod chain;
 pub mod layout;
 pub mod queues;
 pub mod range;
 pub mod refusal;
 pub mod start;
 
-#[derive(Clone, Copy)]
+#[derive(Clone, Copy, Debug, PartialEq, Eq)]
 pub struct Position {}
 
 // The lines at which a processor can stand, by their numbers.
@@ -66,14 +65,14 @@ impl Position {
 }
 
 // A processor and a sequence number (rank); (0, 0) is none.
-#[derive(Clone, Copy)]
+#[derive(Clone, Copy, Debug, PartialEq, Eq)]
 pub struct Token {
     pub processor: u8,
     pub sequence: u16,
 }
 
 // current: the thread that it runs; transit: one on its way; observed: the token that it has seen; sequence: that of its last token; probe: which ready queue it looks at, at CI2.
-#[derive(Clone, Copy)]
+#[derive(Clone, Copy, Debug, PartialEq, Eq)]
 pub struct Processor {
     pub position: u8,
     pub current: u8,
@@ -85,7 +84,7 @@ pub struct Processor {
     pub probe: u8,
 }
 
-#[derive(Clone, Copy)]
+#[derive(Clone, Copy, Debug, PartialEq, Eq)]
 pub struct Mutex {
     pub count: u8,
     pub owner: u8,
@@ -93,7 +92,7 @@ pub struct Mutex {
 }
 
 // status: the place, 0 new, 1 ready, 2 waiting, 3 current, 4 transit, 5 terminated; holder: its mutex (2) or processor (3, 4, and 1 where each has its queue); next: the next in its queue.
-#[derive(Clone, Copy)]
+#[derive(Clone, Copy, Debug, PartialEq, Eq)]
 pub struct Thread {
     pub status: u8,
     pub holder: u8,
@@ -101,7 +100,7 @@ pub struct Thread {
 }
 
 // The queues as chains: the first of queue q, and each thread with its next. Queue 0 is the single ready queue, m that of mutex m, 8 + p the ready queue of processor p.
-#[derive(Clone, Copy)]
+#[derive(Clone, Copy, Debug, PartialEq, Eq)]
 pub struct Chains {
     pub firsts: [u8; 17],
     pub threads: [Thread; 33],
@@ -109,7 +108,7 @@ pub struct Chains {
 
 // Index 0 of each array stands for no processor, mutex or thread and stays zero, as does what lies past P, M and T.
 // stealing: 0 for a single ready queue, 1 for one for each processor.
-#[derive(Clone, Copy)]
+#[derive(Clone, Copy, Debug, PartialEq, Eq)]
 pub struct State {
     pub p: u8,
     pub t: u8,
@@ -122,7 +121,7 @@ pub struct State {
 }
 
 // A session's record: its state, B (the threads created at first), and how many moves are kept: those that stand, and those behind them that were gone back over.
-#[derive(Clone, Copy)]
+#[derive(Clone, Copy, Debug, PartialEq, Eq)]
 pub struct Session {
     pub state: State,
     pub initial: u8,

@@ -5,36 +5,20 @@ ghost use Rattle.reference.specs.State.{queues};
 ghost use Rattle.state.specs.Model.Access.{queued_in, taken_in, bytes_of, thread_from, with_thread, last_in, joined_firsts, joined_threads};
 
 use crate::Thread;
-
-// Past the end a read gives 0, and a write does nothing.
-pub fn get(bytes: &[u8], i: usize) -> u8
-    ensures { result ≡ get_or bytes.now i 0 }
-{
-    if bytes.len() <= i {
-        return 0;
-    }
-    bytes[i]
-}
-
-pub fn put(bytes: &mut [u8], i: usize, x: u8)
-    ensures { bytes.new ≡ set bytes.old i x }
-{
-    if i < bytes.len() {
-        bytes[i] = x;
-    }
-}
+use crate::access::{at, put};
+use std::array;
 
 // Thread k's status, holder and next are bytes 3k, 3k + 1 and 3k + 2.
 pub fn status_in(threads: &[u8], k: u8) -> u8
     ensures { result ≡ get_or threads.now (3 * k) 0 }
 {
-    get(threads, 3 * (k as usize))
+    at(threads, 3 * (k as usize))
 }
 
 pub fn next_in(threads: &[u8], k: u8) -> u8
     ensures { result ≡ get_or threads.now (3 * k + 2) 0 }
 {
-    get(threads, 3 * (k as usize) + 2)
+    at(threads, 3 * (k as usize) + 2)
 }
 
 pub fn put_thread(threads: &mut [u8], k: u8, t: Thread)
@@ -46,41 +30,39 @@ pub fn put_thread(threads: &mut [u8], k: u8, t: Thread)
     put(threads, i + 2, t.next);
 }
 
-// What taking from a queue finds: a thread with the remaining chain's first, or nothing.
-#[derive(Clone, Copy)]
-pub enum Taken {
-    Thread(u8, u8),
-    Nothing,
+// The front of a queue: its first thread, and the first of the chain that remains behind it.
+#[derive(Clone, Copy, Debug, PartialEq, Eq)]
+pub struct Front {
+    pub thread: u8,
+    pub rest: u8,
 }
 
-// Takes from queue q: what it finds, while the queue stays as it is until the thread is moved.
-pub fn take(firsts: &[u8], threads: &[u8], q: u8) -> Taken
+// Takes from queue q: its front, if it has one, while the queue stays as it is until the thread is moved.
+pub fn take(firsts: &[u8], threads: &[u8], q: u8) -> Option<Front>
     ensures { result ≡ taken_in firsts.now threads.now q }
 {
-    let first = get(firsts, q as usize);
+    let first = at(firsts, q as usize);
     let rest = next_in(threads, first);
-    if first == 0 {
-        Taken::Nothing
-    } else {
-        Taken::Thread(first, rest)
-    }
+    let front = Front {
+        thread: first,
+        rest,
+    };
+    if first == 0 { None } else { Some(front) }
 }
 
 // The thread at the end of the chain from first: no chain has more than 32 links.
 fn last_in(threads: &[u8], first: u8) -> u8
     ensures { result ≡ last_in threads.now 32 first }
 {
-    let mut at = first;
-    let mut left: u8 = 32;
-    while 0 < left {
-        let next = next_in(threads, at);
+    let mut k = first;
+    for _ in 0..32u8 {
+        let next = next_in(threads, k);
         if next == 0 {
-            return at;
+            return k;
         }
-        at = next;
-        left -= 1;
+        k = next;
     }
-    at
+    k
 }
 
 // How many ready queues there are: one for all, or one for each of n processors.
@@ -114,7 +96,7 @@ pub fn join(firsts: &mut [u8], threads: &mut [u8], q: u8, k: u8)
     ensures firsts { firsts.new ≡ joined_firsts firsts.old q k }
     ensures threads { threads.new ≡ joined_threads firsts.old threads.old q k }
 {
-    let front = get(firsts, q as usize);
+    let front = at(firsts, q as usize);
     if front == 0 {
         put_thread(threads, k, queued_in(q));
         put(firsts, q as usize, k);
@@ -129,11 +111,8 @@ pub fn bytes_of(threads: [Thread; 33]) -> [u8; 99]
     ensures { result ≡ bytes_of threads }
 {
     let mut bytes = [0u8; 99];
-    let mut k: u8 = 0;
-    while k < 33 {
-        let at = k as usize;
-        put_thread(&mut bytes, k, threads[at]);
-        k += 1;
+    for k in 0..33u8 {
+        put_thread(&mut bytes, k, threads[k as usize]);
     }
     bytes
 }
@@ -143,21 +122,14 @@ fn thread_in(bytes: &[u8], k: u8) -> Thread
 {
     let i = 3 * (k as usize);
     Thread {
-        status: get(bytes, i),
-        holder: get(bytes, i + 1),
-        next: get(bytes, i + 2),
+        status: at(bytes, i),
+        holder: at(bytes, i + 1),
+        next: at(bytes, i + 2),
     }
 }
 
 pub fn threads_of(bytes: &[u8]) -> [Thread; 33]
     ensures { result ≡ tabulate (thread_from bytes.now) 0 33 }
 {
-    let mut threads = [Thread::zero(); 33];
-    let mut k: u8 = 0;
-    while k < 33 {
-        let at = k as usize;
-        threads[at] = thread_in(bytes, k);
-        k += 1;
-    }
-    threads
+    array::from_fn(|k| thread_in(bytes, k as u8))
 }

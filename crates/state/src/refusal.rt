@@ -1,59 +1,99 @@
-// The numbers by which a request is refused; 0 is no refusal.
-#[derive(Clone, Copy)]
-pub struct Refusal {}
+// Why a request is refused, with the number by which the papers list it.
+ghost use Rattle.std.specs.Prelude.{◌≡◌};
+ghost use Rattle.state.specs.Refusal.{number, outcome};
 
-impl Refusal {
+#[derive(Clone, Copy, Debug, PartialEq, Eq)]
+pub enum Refusal {
     // A start table out of its ranges.
-    pub const BAD_CONFIG: u8 = 1;
+    BadConfig,
 
     // No such processor.
-    pub const NO_PROCESSOR: u8 = 2;
+    NoProcessor,
 
     // An action that is none, or an operand that does not fit it; a thread that is not there.
-    pub const BAD_OPERAND: u8 = 3;
+    BadOperand,
 
     // A call elsewhere than at App.
-    pub const CALL_AWAY: u8 = 4;
+    CallAway,
 
     // A go at App.
-    pub const GO_AT_APP: u8 = 5;
+    GoAtApp,
 
     // An unlock by a thread that is not the owner.
-    pub const NOT_OWNER: u8 = 6;
+    NotOwner,
 
     // A create of a thread that is not new.
-    pub const NOT_NEW: u8 = 7;
+    NotNew,
 
     // No room for a further move.
-    pub const FULL: u8 = 8;
+    Full,
 
     // Going to a step that is not kept.
-    pub const NO_STEP: u8 = 9;
+    NoStep,
 
     // A journal or a buffer that is too short.
-    pub const TOO_SHORT: u8 = 10;
+    TooShort,
 
     // A picture of the wrong length.
-    pub const BAD_LENGTH: u8 = 11;
+    BadLength,
 
     // A picture's field, register or zero byte.
-    pub const BAD_FIELD: u8 = 12;
+    BadField,
 
     // A picture's chains.
-    pub const BAD_CHAIN: u8 = 13;
+    BadChain,
 
     // A picture's registers against its threads.
-    pub const BAD_HOLDER: u8 = 14;
+    BadHolder,
 
     // A record that breaks a rule, or would after the step.
-    pub const BAD_RECORD: u8 = 15;
+    BadRecord,
 
     // A journal whose moves do not give the record.
-    pub const BAD_JOURNAL: u8 = 16;
+    BadJournal,
 
     // Scripts that are none.
-    pub const BAD_SCRIPT: u8 = 19;
+    BadScript,
 
     // An exit by a thread that owns a mutex.
-    pub const STILL_OWNER: u8 = 21;
+    StillOwner,
+}
+
+impl Refusal {
+    #[tactic(auto, unfolding(crate::specs::Refusal::number))]
+    pub fn number(self) -> u8
+        ensures { result ≡ number self }
+    {
+        match self {
+            Refusal::BadConfig => 1,
+            Refusal::NoProcessor => 2,
+            Refusal::BadOperand => 3,
+            Refusal::CallAway => 4,
+            Refusal::GoAtApp => 5,
+            Refusal::NotOwner => 6,
+            Refusal::NotNew => 7,
+            Refusal::Full => 8,
+            Refusal::NoStep => 9,
+            Refusal::TooShort => 10,
+            Refusal::BadLength => 11,
+            Refusal::BadField => 12,
+            Refusal::BadChain => 13,
+            Refusal::BadHolder => 14,
+            Refusal::BadRecord => 15,
+            Refusal::BadJournal => 16,
+            Refusal::BadScript => 19,
+            Refusal::StillOwner => 21,
+        }
+    }
+}
+
+// The number of an answer: 0 where it is no refusal.
+#[tactic(auto, unfolding(crate::specs::Refusal::outcome))]
+pub fn outcome<T: Copy>(answer: Result<T, Refusal>) -> u8
+    ensures { result ≡ outcome answer }
+{
+    match answer {
+        Ok(_) => 0,
+        Err(refusal) => refusal.number(),
+    }
 }

@@ -4,8 +4,10 @@ ghost use Rattle.reference.specs.Lists.{choose, around, tabulate};
 ghost use Rattle.state.specs.Record.{zero_state};
 ghost use Rattle.state.specs.Model.Access.{first_processor, first_index, first_thread, first_first, start_record};
 
+use crate::access::Zero;
 use crate::queues::{queued_in, ready_queues};
 use crate::{Chains, Mutex, Position, Processor, State, Thread, Token};
+use std::array;
 
 impl State {
     pub fn zero() -> State
@@ -74,8 +76,7 @@ fn first_processors(p: u8, b: u8) -> [Processor; 9]
     ensures { result ≡ tabulate (first_processor p b) 0 9 }
 {
     let mut processors = [Processor::zero(); 9];
-    let mut i: u8 = 0;
-    while i < 9 {
+    for i in 0..9u8 {
         let at = i as usize;
         let position = first_position(p, b, i);
         let current = first_current(p, b, i);
@@ -84,15 +85,11 @@ fn first_processors(p: u8, b: u8) -> [Processor; 9]
             current,
             transit: 0,
             mutex: 0,
-            observed: Token {
-                processor: 0,
-                sequence: 0,
-            },
+            observed: Token::zero(),
             sequence: 0,
             answer: 0,
             probe: 0,
         };
-        i += 1;
     }
     processors
 }
@@ -158,14 +155,7 @@ fn first_thread(p: u8, b: u8, stealing: u8, k: u8) -> Thread
 fn first_threads(p: u8, b: u8, stealing: u8) -> [Thread; 33]
     ensures { result ≡ tabulate (first_thread p b stealing) 0 33 }
 {
-    let mut threads = [Thread::zero(); 33];
-    let mut k: u8 = 0;
-    while k < 33 {
-        let at = k as usize;
-        threads[at] = first_thread(p, b, stealing, k);
-        k += 1;
-    }
-    threads
+    array::from_fn(|k| first_thread(p, b, stealing, k as u8))
 }
 
 // The first of queue q: thread P + i of the i-th ready queue.
@@ -189,12 +179,5 @@ fn first_first(p: u8, b: u8, stealing: u8, q: u8) -> u8
 fn first_firsts(p: u8, b: u8, stealing: u8) -> [u8; 17]
     ensures { result ≡ tabulate (first_first p b stealing) 0 17 }
 {
-    let mut firsts = [0u8; 17];
-    let mut q: u8 = 0;
-    while q < 17 {
-        let at = q as usize;
-        firsts[at] = first_first(p, b, stealing, q);
-        q += 1;
-    }
-    firsts
+    array::from_fn(|q| first_first(p, b, stealing, q as u8))
 }

@@ -3,23 +3,23 @@
 use Prim.Native.Nat.{ℕ, zero, suc}
 use mathlib.Core.Bool.{Bool, true, false, not, ◌&&◌, true≢false}
 use mathlib.Core.List.{List, [], ◌∷◌}
+use Rattle.std.proofs.Common.{Option, Some, None}
 use mathlib.Core.Path.{◌≡◌, refl}
 use lib.Dec.{eqb}
 use lib.ListN.{get_or}
 use native.Mathlib.Omega.{arith}
 use Rattle.reference.specs.Lists.{choose}
 use Rattle.state.specs.declared.Mutex.{Mutex}
-use Rattle.state.specs.declared.queues.Taken.{Taken}
-use Rattle.state.specs.declared.queues.Taken.TheVariants.{Thread, Nothing}
+use Rattle.state.specs.declared.queues.Front.{Front}
 use Rattle.step.proofs.Match.{beyond}
 use Rattle.step.specs.declared.View.{View}
 use Rattle.step.specs.declared.Effect.{Effect}
 use Rattle.step.specs.Model.Moves.{on_taken, effects, stay, writers, line_effect, act_effect, act_outcome, at_CI2, at_CI3, at_L3, at_L4, at_L6, at_L7, at_L10, at_GT1, at_H3, at_H6, at_Y1, at_Y2, at_Y3, at_C2, lock_call, trylock_call, unlock_call, yield_call, exit_call, create_call}
 
 -- on both ways of a case
-by-taken : (q : Taken) (e : Effect) (f : ℕ → ℕ → Effect) (x : Mutex) → e.mutex ≡ x → ((k rest : ℕ) → (f k rest).mutex ≡ x) → (on_taken q e f).mutex ≡ x
-by-taken Nothing e f x h i = h
-by-taken (Thread k rest) e f x h i = i k rest
+by-taken : (q : Option Front) (e : Effect) (f : ℕ → ℕ → Effect) (x : Mutex) → e.mutex ≡ x → ((k rest : ℕ) → (f k rest).mutex ≡ x) → (on_taken q e f).mutex ≡ x
+by-taken None e f x h i = h
+by-taken (Some q) e f x h i = i q.thread q.rest
 
 by_test : (b : Bool) (e f : Effect) (x : Mutex) → e.mutex ≡ x → f.mutex ≡ x → (choose b e f).mutex ≡ x
 by_test true e f x h i = h

@@ -1,14 +1,12 @@
 -- What the code's reads and writes of a record compute.
 -- Assumes nothing.
-use Rattle.std.specs.Prelude.{ℕ, zero, suc, ◌+◌, ◌-◌, ◌*◌, List, [], ◌∷◌, eqb, leb, get_or, set, replicate}
+use Rattle.std.specs.Prelude.{ℕ, zero, suc, ◌+◌, ◌-◌, ◌*◌, Option, Some, None, List, [], ◌∷◌, eqb, leb, get_or, set, replicate}
 use Rattle.state.specs.declared.Thread.{Thread}
 use Rattle.state.specs.declared.Processor.{Processor}
 use Rattle.state.specs.declared.Mutex.{Mutex}
 use Rattle.state.specs.declared.Chains.{Chains}
 use Rattle.state.specs.declared.State.{State}
-use Rattle.state.specs.declared.queues.Taken.{Taken}
-use Rattle.state.specs.declared.queues.Taken.TheVariants as answer
-use Rattle.state.specs.declared.queues.Taken.TheVariants.{Nothing}
+use Rattle.state.specs.declared.queues.Front.{Front}
 use Rattle.state.specs.Record.{zero_thread, zero_mutex, zero_token, thread_in}
 use Rattle.state.specs.Association.{ready_index, queued_as}
 use Rattle.reference.specs.Lists.{choose, if_zero, around, in_range, tabulate}
@@ -86,10 +84,10 @@ last_from ts zero k = k
 last_from ts (suc fuel) k = choose (eqb (next_of ts k) 0) k (last_from ts fuel (next_of ts k))
 
 -- the first of queue q, with the first of the chain that remains
-unfoldable pub taken : Chains → ℕ → Taken
+unfoldable pub taken : Chains → ℕ → Option Front
 taken c q =
     let k = get_or c.firsts q 0 in
-    choose (eqb k 0) Nothing (answer.Thread k (next_of c.threads k))
+    choose (eqb k 0) None (Some (record { thread = k; rest = next_of c.threads k }))
 
 -- thread k leaves the front of queue q, whose chain then begins at `rest`, and is t
 unfoldable pub removed : Chains → ℕ → ℕ → ℕ → Thread → Chains
@@ -123,10 +121,10 @@ abbrev pub with_thread : List ℕ → ℕ → Thread → List ℕ
 with_thread b k t = set (set (set b (3 * k) t.status) (3 * k + 1) t.holder) (3 * k + 2) t.next
 
 -- what taking from queue q finds: its first, with the first of the chain that remains
-abbrev pub taken_in : List ℕ → List ℕ → ℕ → Taken
+abbrev pub taken_in : List ℕ → List ℕ → ℕ → Option Front
 taken_in f b q =
     let k = get_or f q 0 in
-    choose (eqb k 0) Nothing (answer.Thread k (get_or b (3 * k + 2) 0))
+    choose (eqb k 0) None (Some (record { thread = k; rest = get_or b (3 * k + 2) 0 }))
 
 -- the thread at the end of the chain from k, within `fuel` links
 unfoldable pub last_in : List ℕ → ℕ → ℕ → ℕ

@@ -1,14 +1,13 @@
 -- What the code computes on its own records: lines, calls, causes, a move, a run of moves. Theorems relate it to the reference machine.
 -- Assumes nothing.
-use Rattle.std.specs.Prelude.{ℕ, zero, suc, ◌+◌, ◌-◌, ◌*◌, ◌/◌, Bool, true, false, ◌&&◌, ◌||◌, not, List, [], ◌∷◌, eqb, leb, ltb, length, get_or, set}
+use Rattle.std.specs.Prelude.{ℕ, zero, suc, ◌+◌, ◌-◌, ◌*◌, ◌/◌, Bool, true, false, ◌&&◌, ◌||◌, not, Option, Some, None, List, [], ◌∷◌, eqb, leb, ltb, length, get_or, set}
 use Rattle.state.specs.declared.Token.{Token}
 use Rattle.state.specs.declared.Processor.{Processor}
 use Rattle.state.specs.declared.Mutex.{Mutex}
 use Rattle.state.specs.declared.Thread as thread
 use Rattle.state.specs.declared.Chains.{Chains}
 use Rattle.state.specs.declared.State.{State}
-use Rattle.state.specs.declared.queues.Taken.{Taken}
-use Rattle.state.specs.declared.queues.Taken.TheVariants.{Thread, Nothing}
+use Rattle.state.specs.declared.queues.Front.{Front}
 use Rattle.state.specs.Record.{zero_token, mutex_in, processor_of, mutex_of, thread_of}
 use Rattle.state.specs.Model.Access.{taken_in, with_thread, joined_firsts, joined_threads, taken, removed, joined, placed, with_processor, with_mutex, with_chains, with_applied}
 use Rattle.reference.specs.Refusal.{bad_record, still_owner}
@@ -114,9 +113,9 @@ abbrev pub serve : ℕ → ℕ → ℕ → View → Effect
 serve k rest n v = effect (on_mutex n (threads v.proc.current k v.proc)) (owned k v.mutex) (Take v.proc.mutex k rest)
 
 -- a case for what taking from a queue found
-abbrev pub on_taken : {A : Type 0} → Taken → A → (ℕ → ℕ → A) → A
-on_taken Nothing a f = a
-on_taken (Thread k rest) a f = f k rest
+abbrev pub on_taken : {A : Type 0} → Option Front → A → (ℕ → ℕ → A) → A
+on_taken None a f = a
+on_taken (Some front) a f = f front.thread front.rest
 
 -- ---- the lines
 
@@ -292,7 +291,7 @@ facts_of there goes z v owning status a o =
 unfoldable pub cause_seen : Sizes → View → Bool → ℕ → ℕ → ℕ → ℕ
 cause_seen z v owning status a o = first_cause (facts_of (in_range 1 z.p v.number) (eqb a 0) z v owning status a o)
 
-abbrev pub nothing_there : Taken → Bool
+abbrev pub nothing_there : Option Front → Bool
 nothing_there q = on_taken q true (λ k rest. false)
 
 abbrev pub breaks_at : ℕ → View → Bool

@@ -1,12 +1,12 @@
 -- `touch::seen` meets its contract.
 -- Assumes nothing.
+use Rattle.std.proofs.Common.{Some, None}
 use mathlib.Core.Bool.{Bool, true, false}
 use mathlib.Core.Path.{◌≡◌, refl}
 use Prim.Native.Nat.{ℕ}
 use lib.Dec.{eqb}
 use lib.ListN.{get_or}
 use Rattle.state.specs.declared.Chains.{Chains}
-use Rattle.state.specs.declared.queues.Taken.TheVariants.{Thread, Nothing}
 use Rattle.state.specs.Model.Access.{taken}
 use Rattle.reference.specs.Lists.{choose}
 use Rattle.step.specs.Model.Moves.{nothing_there}
@@ -17,7 +17,7 @@ none_there : (c : Chains) (q : ℕ) → eqb (get_or c.firsts q 0) 0 ≡ nothing_
 unfolding taken
 none_there c q = by (eqb (get_or c.firsts q 0) 0) _ _
   where
-    by : (b : Bool) (k n : ℕ) → b ≡ nothing_there (choose b Nothing (Thread k n))
+    by : (b : Bool) (k n : ℕ) → b ≡ nothing_there (choose b None (Some (record { thread = k; rest = n })))
     by true k n = refl
     by false k n = refl
 

@@ -9,7 +9,7 @@ returns-then-front-eq0 c =
     let thread = c in
     let test = thread in
     rw (
-      ← test.get-front.ensures,
+      ← test.at-front.ensures,
       eq-eqb _ _ test.if-front-eq0.true,
       c.put.ensures,
       thread.put_thread.ensures,
@@ -23,7 +23,7 @@ returns-else-front-eq0 c =
     let last = thread in
     let test = last in
     rw (
-      ← test.get-front.ensures,
+      ← test.at-front.ensures,
       ne_eqb _ _ test.if-front-eq0.false,
       c.put-else-front-eq0.ensures,
       thread.put_thread-else-front-eq0.ensures,

@@ -1,23 +1,9 @@
 -- `state::queues::threads_of` meets its contract.
 -- Assumes nothing.
-use mathlib.Core.Path.{◌≡◌}
-use native.Mathlib.Omega.{arith}
-use lib.ListN.{length-set}
-use borrow.Author.Rules.{rules}
+use Rattle.std.proofs.Common.{rules, refl, ◌≡◌}
 use Rattle.state.specs.Model.Access.{thread_from}
-use Rattle.state.proofs.Fill.{fill_none, fill_more, fill_all}
+use Rattle.state.proofs.Tables.{table_of}
 use Rattle.state.proofs.queues.threads_of.Goals as goal
 
-pub loop-k-init : goal.loop-k-init
-loop-k-init c = (omega arith, search rules, fill_none (thread_from c.args.bytes.now))
-
-pub loop-k-preserved : goal.loop-k-preserved
-loop-k-preserved c =
-    let k = c.loop-k in
-    (omega arith, simp length-set k.invariant.1, rw c.thread_in.ensures (fill_more _ k.threads k.k (omega arith) k.invariant.2))
-
 pub returns : goal.returns
-returns c =
-    let k = c.loop-k in
-    let e : k.k ≡ 33 = omega arith in
-    fill_all _ k.threads 33 k.invariant.1 (rw e at k.invariant.2)
+returns c = table_of _ (λ f. f.0.now ≡ c.args.bytes.now) (thread_from c.args.bytes.now) (λ p q i y k called. search rules) c.from_fn.result 33 _ refl c.from_fn.ensures.items
