@@ -9,4 +9,4 @@ pub mod Sized
 pub mod Table
 pub mod Started
 pub mod Bytes
-mod Tables
+pub mod Tables
