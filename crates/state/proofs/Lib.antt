@@ -3,6 +3,7 @@ pub mod Branch
 pub mod Begun
 pub mod Numbers
 pub mod Past
+pub mod Refused
 pub mod Joining
 pub mod Fill
 pub mod Sized
