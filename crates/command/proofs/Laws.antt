@@ -1,10 +1,9 @@
 -- Laws of tests, and of what is read step by step, that the proofs here share.
-use Prim.Native.Nat.{ℕ, ◌≤◌}
+use Prim.Native.Nat.{ℕ}
 use mathlib.Core.Bool.{Bool, true, false, ◌&&◌, false≢true}
 use mathlib.Core.Path.{◌≡◌, refl}
-use lib.Dec.{leb}
 use native.Mathlib.Omega.{arith}
-use borrow.Author.Tests.{leb-true, eqb-true}
+use borrow.Author.Tests.{eqb-true}
 use Rattle.std.proofs.Common.{List, [], ◌∷◌, ◌++◌, Option, Some, None, cond, length, take, drop, sym, ◌∙◌}
 use Rattle.std.proofs.lemmas.List.{take-append-drop}
 use Rattle.std.specs.Option.{IfSome, option_and_then}
@@ -17,10 +16,6 @@ use Rattle.command.specs.Model.Reading.{ended, after, or_else}
 pub both : (a b : Bool) → (a && b) ≡ true → (a ≡ true) × (b ≡ true)
 both true b e = (refl, e)
 both false b e = absurd (false≢true e)
-
--- a number between two others is at least the first
-pub at_least : (a n b : ℕ) → (leb a n && leb n b) ≡ true → a ≤ n
-at_least a n b e = leb-true a n (both (leb a n) (leb n b) e).0
 
 pub some_if : {A : Type 0} (t : Bool) (x : A) → then_some t x ≡ cond t (Some x) None
 some_if true x = refl

@@ -27,10 +27,6 @@ last_digit : (n : ℕ) → is_digit (get_or (field n) 0 0) ≡ false
 unfolding field
 last_digit n = refl
 
-pub field_positive : (n : ℕ) → 0 < length (field n)
-unfolding field
-field_positive n = omega arith
-
 -- what stands at the end of a line
 pub field_last : (n : ℕ) → n ≤ 255 → read_field (field n) ≡ Some (n, [])
 field_last n h = ap read_field (sym (append-nil (field n))) ∙ field_spelled n [] h refl

@@ -3,7 +3,7 @@ use Prim.Native.Nat.{ℕ, suc, ◌+◌, ◌-◌, ◌≤◌, ◌<◌, min}
 use native.Mathlib.Omega.{arith}
 use native.Mathlib.Numerals.{add-one}
 use mathlib.Core.Bool.{Bool, true, false, not, ◌||◌, false≢true}
-use mathlib.Core.Logic.{◌⊎◌, inl, inr}
+use mathlib.Core.Logic.{◌⊎◌, inl}
 use mathlib.Core.Path.{◌≡◌, refl, sym, ap, subst, ◌∙◌}
 use mathlib.Core.List.{List, [], ◌∷◌, ◌++◌, append-nil, append_assoc}
 use lib.Dec.{leb, ltb}
@@ -159,12 +159,6 @@ module _ (input : Input) (chunk bytes : List ℕ) (next : NextLine) (chunk' byte
         some = x.some ∙ ap (λ (t : Bool). not next.ended || t) (held-some x.line bytes next.line bytes' x.held);
       }
 
-  -- at a line feed, where a read brought nothing, and after all the reads
-  pub done_line : next.ended ≡ false → Next input chunk bytes next chunk' bytes'
-  done_line e = reading_done (λ t. absurd (false≢true (sym e ∙ t)))
-
+  -- where a read brought nothing
   pub done_input : 0 < count → next.input.end ≡ 0 → Next input chunk bytes next chunk' bytes'
   done_input h e = reading_done (λ _. inl (h, rw e))
-
-  pub done_reads : count ≡ 18446744073709551615 → Next input chunk bytes next chunk' bytes'
-  done_reads e = reading_done (λ _. inr e)

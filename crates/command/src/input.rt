@@ -7,6 +7,7 @@ use crate::line::Line;
 use std::io::{Read, Stdin};
 
 // What is left of the last read: the bytes of the chunk from `at` up to `end`, which is how many the read brought.
+// kept: left_of in specs/Transcript reads both fields.
 #[derive(Clone, Copy)]
 pub struct Input {
     pub at: usize,
@@ -14,6 +15,7 @@ pub struct Input {
 }
 
 // ended: the input ended instead of a line feed; counts: a line feed ended the line, or it has a byte.
+// kept: Next in specs/Transcript reads each field.
 #[derive(Clone, Copy)]
 pub struct NextLine {
     pub input: Input,
@@ -33,9 +35,9 @@ pub fn unread() -> Input
 fn read_chunk(mut stdin: Stdin, chunk: &mut [u8]) -> Input
     ensures { (result.at ≡ 0) × (result.end ≤ length chunk.new) }
 {
-    match stdin.read(chunk) {
-        Ok(end) => Input { at: 0, end },
-        Err(_) => Input { at: 0, end: 0 },
+    Input {
+        at: 0,
+        end: stdin.read(chunk).unwrap_or(0),
     }
 }
 

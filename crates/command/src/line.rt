@@ -3,6 +3,7 @@ ghost use Rattle.std.specs.Prelude.{◌≡◌, length, set};
 ghost use Rattle.command.specs.Model.Line.{empty_line, fed};
 
 // How many bytes the buffer holds of it; long: there were more, and they are dropped.
+// kept: Held in specs/Transcript reads both fields.
 #[derive(Clone, Copy)]
 pub struct Line {
     pub len: usize,

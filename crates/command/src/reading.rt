@@ -1,6 +1,6 @@
 // Which command a line of bytes is. A reader takes what it reads from a line's front, and answers it with what is behind it.
 ghost use Rattle.std.specs.Prelude.{◌+◌, ◌-◌, ◌≡◌, IfSome, length, get_or};
-ghost use Rattle.command.specs.Model.Reading.{shown, shown_rest, after, is_digit, number_of, read_number, read_field, start_line, move_line, goto_line, read_command, command_of};
+ghost use Rattle.command.specs.Model.Reading.{shown, shown_rest, after, number_of, read_number, read_field, start_line, move_line, goto_line, read_command, command_of};
 
 use crate::Command;
 
@@ -20,12 +20,6 @@ fn byte(s: &[u8], i: usize) -> u8
     s.get(i).copied().unwrap_or(0)
 }
 
-fn digit(b: u8) -> bool
-    ensures { result ≡ is_digit b }
-{
-    b.is_ascii_digit()
-}
-
 fn worth(b: u8) -> u16
     ensures { result ≡ b - 48 }
 {
@@ -37,22 +31,22 @@ fn worth(b: u8) -> u16
 fn number_of(space: u8, a: u8, b: u8, c: u8, d: u8) -> Option<(u16, usize)>
     ensures { result ≡ number_of space a b c d }
 {
-    if space != b' ' || !digit(a) {
+    if space != b' ' || !a.is_ascii_digit() {
         return None;
     }
     let one = worth(a);
-    if !digit(b) {
+    if !b.is_ascii_digit() {
         return Some((one, 2));
     }
     if a == b'0' {
         return None;
     }
     let two = 10 * one + worth(b);
-    if !digit(c) {
+    if !c.is_ascii_digit() {
         return Some((two, 3));
     }
     let three = 10 * two + worth(c);
-    if !digit(d) {
+    if !d.is_ascii_digit() {
         return Some((three, 4));
     }
     Some((10 * three + worth(d), 5))

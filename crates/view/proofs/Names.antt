@@ -1,25 +1,20 @@
 -- Laws of words, numbers, tokens, shared words and marks.
 -- Assumes nothing.
-use Prim.Native.Nat.{ℕ, zero, suc, ◌+◌, ◌-◌, ◌*◌, ◌≤◌, ◌<◌, min}
+use Prim.Native.Nat.{ℕ, ◌+◌, ◌-◌, ◌*◌, ◌≤◌, ◌<◌, min}
 use native.Mathlib.Numerals.{add-one}
 use native.Mathlib.Nat.{mul-le-mul}
 use native.Mathlib.Omega.{arith}
-use mathlib.Core.Bool.{Bool, true, false, cond}
+use mathlib.Core.Bool.{Bool, true, false}
 use mathlib.Core.Path.{◌≡◌, refl, sym, ap, ◌∙◌}
-use mathlib.Core.List.{List, [], ◌∷◌, ◌++◌, append-nil}
+use mathlib.Core.List.{List, [], ◌∷◌}
 use lib.Dec.{leb}
 use lib.ListN.{length, get_or, take, drop, length-drop, drop_of_length-le}
 use lib.Seq.{drop-cons, take-length, take_all, drop-length}
 use borrow.Author.Tests.{eq-eqb, ne_eqb, leb-true, leb-false}
-use Rattle.reference.specs.Lists.{if_zero}
-use Rattle.command.specs.Command.{field}
-use Rattle.command.specs.Printing.{text, decimal, wide}
 use Rattle.command.specs.declared.printing.Page.{Page}
 use Rattle.command.specs.Printing.{written}
 use Rattle.command.proofs.Put.{written_twice, written_none}
-use Rattle.state.specs.declared.Token.{Token}
-use Rattle.reference.specs.Touch.{Word, Touch, kind, number, same_word}
-use Rattle.view.specs.Words.{trimmed, word_at, kind_word, token_text, word_text, mark}
+use Rattle.view.specs.Words.{trimmed, word_at}
 
 -- ---- the length of a word
 
@@ -49,35 +44,6 @@ cut l a width from upto e f =
 pub cut_word : (width n : ℕ) (l : List ℕ) (from upto : ℕ) → from ≡ min (width * n) (length l) → upto ≡ min (width * n + width) (length l) → trimmed (take (upto - from) (drop from l)) ≡ word_at width l n
 unfolding word_at
 cut_word width n l from upto e f = ap trimmed (cut l (width * n) width from upto e f)
-
--- ---- none and some
-
-pub if_some : {A : Type 0} (n : ℕ) (x y : A) → (n ≡ 0 → ⊥) → if_zero n x y ≡ y
-if_some zero x y h = absurd (h refl)
-if_some (suc n) x y h = refl
-
-pub token-some : (t : Token) → (t.processor ≡ 0 → ⊥) → text "(" ++ decimal t.processor ++ text "," ++ wide t.sequence ++ text ")" ≡ token_text t
-token-some t h = sym (if_some t.processor _ _ h)
-
--- ---- shared words
-
-pub word_none : (w : Word) (k : ℕ) → k ≡ kind w → k ≡ 0 → kind_word k ≡ word_text w
-unfolding word_text
-word_none w k e z = sym (append-nil (kind_word k)) ∙ ap (λ (x : List ℕ). kind_word k ++ x) (none k z) ∙ rw e
-  where
-    none : (n : ℕ) → n ≡ 0 → [] ≡ if_zero n [] (field (number w))
-    none n z = rw z
-
-pub word_some : (w : Word) (k n : ℕ) → k ≡ kind w → n ≡ number w → (k ≡ 0 → ⊥) → kind_word k ++ field n ≡ word_text w
-unfolding word_text
-word_some w k n e f h = ap (λ (x : List ℕ). kind_word k ++ x) (sym (if_some k [] (field n) h)) ∙ rw (e, f)
-
--- ---- marks
-
-pub mark_of : (t : Touch) (w : Word) (read written : Bool) → read ≡ same_word t.reads w → written ≡ same_word t.writes w
-    → cond read (cond written (text " rw") (text " r")) (cond written (text " w") []) ≡ mark t w
-unfolding mark
-mark_of t w read written e f = rw (e, f)
 
 -- ---- a word put byte by byte
 

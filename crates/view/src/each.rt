@@ -1,6 +1,6 @@
 // Rows put on a page, one for each of some numbers.
 ghost use Rattle.std.specs.Prelude.{◌≡◌, ◌≤◌, ◌+◌};
-ghost use Rattle.view.specs.Words.{PutsEach};
+ghost use Rattle.view.specs.Each.{PutsEach};
 
 use command::printing::Page;
 

@@ -1,5 +1,5 @@
 -- `view::each::put_each` meets its contract: the rows of the numbers so far are put.
-use Rattle.view.specs.Words.{PutsEach}
+use Rattle.view.specs.Each.{PutsEach}
 use Rattle.view.proofs.each.put_each.Given as goal
 
 abbrev pub invariant-loop-i : goal.invariant-loop-i
