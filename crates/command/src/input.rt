@@ -7,6 +7,7 @@ use crate::line::Line;
 use std::io::{Read, Stdin};
 
 // What is left of the last read: the bytes of the chunk from `at` up to `end`, which is how many the read brought.
+// kept: left_of in specs/Transcript reads both fields.
 #[derive(Clone, Copy)]
 pub struct Input {
     pub at: usize,
@@ -14,6 +15,7 @@ pub struct Input {
 }
 
 // ended: the input ended instead of a line feed; counts: a line feed ended the line, or it has a byte.
+// kept: Next in specs/Transcript reads each field.
 #[derive(Clone, Copy)]
 pub struct NextLine {
     pub input: Input,
@@ -33,9 +35,9 @@ pub fn unread() -> Input
 fn read_chunk(mut stdin: Stdin, chunk: &mut [u8]) -> Input
     ensures { (result.at ≡ 0) × (result.end ≤ length chunk.new) }
 {
-    match stdin.read(chunk) {
-        Ok(end) => Input { at: 0, end },
-        Err(_) => Input { at: 0, end: 0 },
+    Input {
+        at: 0,
+        end: stdin.read(chunk).unwrap_or(0),
     }
 }
 
@@ -44,14 +46,12 @@ fn scan(input: Input, line: Line, chunk: &[u8], bytes: &mut [u8]) -> NextLine
     ensures { (result.input.end ≡ input.end) × Scanned (left_of input chunk.now) line bytes.old result (left_of result.input chunk.now) bytes.new }
 {
     let end = input.end;
-    let mut at = input.at;
     let mut held = line;
-    while at < end && at < chunk.len() {
+    for at in input.at..end.min(chunk.len()) {
         let b = chunk[at];
-        at += 1;
         if b == b'\n' {
             return NextLine {
-                input: Input { at, end },
+                input: Input { at: at + 1, end },
                 line: held,
                 counts: true,
                 ended: false,
@@ -60,7 +60,7 @@ fn scan(input: Input, line: Line, chunk: &[u8], bytes: &mut [u8]) -> NextLine
         held = held.fed(b, bytes);
     }
     NextLine {
-        input: Input { at, end },
+        input: Input { at: end, end },
         line: held,
         counts: (0 < held.len) | held.long,
         ended: true,
@@ -68,20 +68,20 @@ fn scan(input: Input, line: Line, chunk: &[u8], bytes: &mut [u8]) -> NextLine
 }
 
 // The next line, in `bytes`. More is read when the chunk is used up, until a line feed comes or a read brings nothing.
-// A proved loop has to end, so the reads are counted down from a number that no line uses up.
+// A proved loop has to end, so the reads are counted, up to a number that no line takes.
 pub fn next_line(stdin: Stdin, input: Input, chunk: &mut [u8], bytes: &mut [u8]) -> NextLine
     ensures { Next input chunk.old bytes.old result chunk.new bytes.new }
 {
-    let empty = Line::empty();
-    let mut next = scan(input, empty, chunk, bytes);
-    let mut left = u64::MAX;
-    let mut go = next.ended;
-    while left > 0 && go {
+    let mut next = scan(input, Line::empty(), chunk, bytes);
+    for _ in 0..u64::MAX {
+        if !next.ended {
+            return next;
+        }
         let fresh = read_chunk(stdin, chunk);
-        let line = next.line;
-        next = scan(fresh, line, chunk, bytes);
-        go = next.ended & (0 < fresh.end);
-        left -= 1;
+        next = scan(fresh, next.line, chunk, bytes);
+        if fresh.end == 0 {
+            return next;
+        }
     }
     next
 }

@@ -1,18 +1,17 @@
 -- How long the texts can be: a table has at most 4,690 bytes.
 -- Assumes nothing.
-use Prim.Native.Nat.{ℕ, zero, suc, ◌+◌, ◌*◌, ◌/◌, ◌%◌, ◌≤◌, max}
+use Prim.Native.Nat.{ℕ, zero, suc, ◌+◌, ◌*◌, ◌≤◌, max}
 use native.Mathlib.Nat.{suc-mul}
 use native.Mathlib.Omega.{arith}
 use mathlib.Core.Bool.{Bool, true, false, cond, not}
 use mathlib.Core.Path.{◌≡◌, refl}
 use mathlib.Core.List.{List, [], ◌∷◌, ◌++◌}
-use lib.Dec.{eqb, ltb}
-use lib.ListN.{length, take, drop, length-append, length-take}
+use lib.Dec.{eqb}
+use lib.ListN.{length, take, drop, length-append, length-take, length-replicate}
 use borrow.Author.Tests.{eqb-true, not-false}
 use Rattle.command.specs.Command.{field}
 use Rattle.command.specs.Printing.{text, decimal, wide, padded, line_feed}
-use Rattle.command.proofs.Lines.{decimal-length}
-use Rattle.command.proofs.Put.{spaces-length}
+use Rattle.command.proofs.Lines.{decimal-length, wide-length}
 use Rattle.reference.specs.Lists.{if_zero}
 use Rattle.reference.specs.Touch.{Word, count, token, queue, ready, birth, Touch, same_word}
 use Rattle.reference.proofs.Tests.{both_left, ◌and◌, range_true, passed}
@@ -29,14 +28,6 @@ use Rattle.view.specs.Words.{trimmed, word_at, line_name, answer_word, status_wo
 use Rattle.view.specs.Table.{processor_row, mutex_row, ready_row, ready_rows, having, status_row, table, view_text}
 
 -- ---- numbers and words
-
-wide-length : (n : ℕ) → length (wide n) ≤ 6
-unfolding wide
-wide-length n = go (ltb n 1000)
-  where
-    go : (t : Bool) → length (cond t (decimal n) (decimal (n / 1000) ++ ((48 + n / 100 % 10) ∷ (48 + n / 10 % 10) ∷ (48 + n % 10) ∷ []))) ≤ 6
-    go true = omega (arith, decimal-length n)
-    go false = simp length-append (omega (arith, decimal-length (n / 1000)))
 
 trimmed-length : (l : List ℕ) → length (trimmed l) ≤ length l
 unfolding trimmed
@@ -81,7 +72,7 @@ marked-length k x t w h = simp length-append (omega (arith, mark-length t w))
 -- a column is as wide as the heading or its longest entry
 column_length : (width k : ℕ) (x : List ℕ) → length x ≤ k → length (padded width x) ≤ max width k
 unfolding padded
-column_length width k x h = simp (length-append, spaces-length) (omega arith)
+column_length width k x h = simp (length-append, length-replicate) (omega arith)
 
 -- ---- lists of threads
 
