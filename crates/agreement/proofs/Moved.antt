@@ -14,8 +14,7 @@ use Rattle.state.specs.Rules.{state_ok}
 use Rattle.state.specs.Allowed.{Allowed}
 use Rattle.step.specs.declared.View as code
 use Rattle.step.specs.declared.Effect.{Effect}
-use Rattle.step.specs.declared.Moved.{Moved}
-use Rattle.step.specs.Model.Moves.{up_to, target_of, view_of, act_effect, put_effect, stepped_of, step_breaks_of, refusal_of, moved_of}
+use Rattle.step.specs.Model.Moves.{Moved, up_to, target_of, view_of, act_effect, put_effect, stepped_of, step_breaks_of, refusal_of, moved_of}
 use Rattle.reference.specs.Refusal.{bad_record, refuse}
 use Rattle.reference.specs.Lists.{choose, if_zero}
 use Rattle.reference.specs.State as reference

@@ -18,7 +18,7 @@ use Rattle.reference.specs.State.{Line, App, H5, lines, line_of, same_line, free
 use Rattle.reference.specs.Safe.{In}
 use Rattle.reference.proofs.Each.{each_at, each_agree}
 use Rattle.reference.proofs.Sums.{tabulate-at}
-use Rattle.rules.proofs.Past.{read_past}
+use Rattle.state.proofs.Past.{read_past}
 use Rattle.overtaking.specs.Ahead.{at_H5, overtakable}
 use Rattle.ahead.specs.Model.Waiting.{offering, marked}
 

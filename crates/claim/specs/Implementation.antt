@@ -9,9 +9,7 @@ use Rattle.reference.specs.Session.{Opening, table, scripted, Request, move, tur
 use Rattle.picture.specs.declared.answer.Read.{Read}
 use Rattle.picture.specs.Picture.{write_refusal, written, read}
 use Rattle.picture.specs.Turns.{Answer as TurnsAhead, meaning, ahead}
-use Rattle.session.specs.declared.Answer.{Answer}
-use Rattle.session.specs.declared.MoveAnswer.{MoveAnswer}
-use Rattle.session.specs.Contract.{started, lent_refusal, moved, journal_after, went, front}
+use Rattle.session.specs.Contract.{Answer, MoveAnswer, started, lent_refusal, moved, journal_after, went, front}
 use Rattle.turns.specs.Contract as turns
 
 -- what a call leaves: its number, the record, the words that it says it touched, the journal that it was lent, the further buffers

@@ -1,11 +1,10 @@
 -- Laws behind the rules' code.
-pub mod Past
 pub mod Table
 pub mod Logic
 pub mod Members
 pub mod Bits
 pub mod Walks
 pub mod Chains
-pub mod Laid
+pub mod Placed
 pub mod Firsts
 pub mod Wrong

@@ -1,18 +1,15 @@
 -- The walk thread by thread and queue by queue, and No. 3 of every answer that tells it.
 -- Assumes nothing.
-use Prim.Native.Nat.{ℕ, zero, suc, ◌+◌, ◌-◌, ◌≤◌, ◌<◌}
+use Prim.Native.Nat.{ℕ, zero, suc, ◌+◌, ◌≤◌, ◌<◌}
 use mathlib.Core.Path.{◌≡◌, refl, sym, ap, ◌∙◌}
-use mathlib.Core.Bool.{Bool, true, false, ◌&&◌, ◌||◌, not, and-false}
+use mathlib.Core.Bool.{Bool, true, false, ◌||◌, not}
 use mathlib.Core.List.{List, [], ◌∷◌, ◌++◌, append_assoc, append-nil}
 use native.Mathlib.Decide.{dec_le}
 use native.Mathlib.Omega.{arith}
 use native.Mathlib.Numerals.{add-one}
-use borrow.Author.Tests.{lt-ltb, ltb-true, ne_eqb}
-use lib.Dec.{eqb, ltb}
 use lib.ListN.{get_or}
 use Rattle.reference.specs.Lists.{choose}
 use Rattle.reference.specs.Picture.{stands_in}
-use Rattle.reference.proofs.Tests.{both_left}
 use Rattle.state.specs.declared.Thread.{Thread}
 use Rattle.state.specs.Record.{chain}
 use Rattle.state.specs.Rules.{placed_in}
@@ -57,20 +54,6 @@ seen_twice l k true m = refl
 seen_twice l k false true = refl
 seen_twice l k false false = refl
 
--- ---- the code's test: threads are left, and the chain has not ended
-
-abbrev left : ℕ → ℕ → Bool
-left n k = ltb 0 n && not (eqb k 0)
-
-left-some : (n k : ℕ) → left (suc n) (suc k) ≡ true
-left-some n k = rw (lt-ltb 0 (suc n) (omega arith), ne_eqb (suc k) 0 (λ e. omega arith))
-
-left-none : {A : Type 0} (n : ℕ) → left n 0 ≡ true → A
-left-none n h = never (left n 0) (and-false (ltb 0 n)) h
-
-pub left_positive : (n k : ℕ) → left n k ≡ true → 0 < n
-left_positive n k h = ltb-true 0 n (both_left (ltb 0 n) (not (eqb k 0)) h)
-
 -- ---- along one chain
 
 module _ (thread : ℕ → Thread) (q : ℕ) where
@@ -97,23 +80,14 @@ module _ (thread : ℕ → Thread) (q : ℕ) where
 
   -- the same by the code's tests
 
-  pub along-over : (n k : ℕ) (l : List ℕ) → left n k ≡ false → along thread q n k l ≡ so_far l false false
-  along-over zero k l h = along-none k l
-  along-over (suc n) zero l h = along-end (suc n) l
-  along-over (suc n) (suc k) l h = never (left (suc n) (suc k)) h (left-some n k)
-
-  pub along-stop : (n k : ℕ) (l : List ℕ) → left n k ≡ true → stands_in k l || misplaced k ≡ true → along thread q n k l ≡ so_far l (stands_in k l) (misplaced k)
+  pub along-stop : (n k : ℕ) (l : List ℕ) → (k ≡ 0 → ⊥) → stands_in k l || misplaced k ≡ true → along thread q (suc n) k l ≡ so_far l (stands_in k l) (misplaced k)
   unfolding along
-  along-stop zero k l h e = never false refl h
-  along-stop (suc n) zero l h e = left-none (suc n) h
-  along-stop (suc n) (suc k) l h e = seen_stop l (suc k) (along thread q n (thread (suc k)).next) (stands_in (suc k) l) (misplaced (suc k)) e
+  along-stop n zero l h e = absurd (h refl)
+  along-stop n (suc k) l h e = seen_stop l (suc k) (along thread q n (thread (suc k)).next) (stands_in (suc k) l) (misplaced (suc k)) e
 
-  pub along_more : (n k : ℕ) (l : List ℕ) → left n k ≡ true → stands_in k l || misplaced k ≡ false → along thread q n k l ≡ along thread q (n - 1) (thread k).next (l ++ (k ∷ []))
-  along_more zero k l h e = never false refl h
-  along_more (suc n) zero l h e = left-none (suc n) h
-  along_more (suc n) (suc k) l h e =
-      let m : suc n - 1 ≡ n = omega arith in
-      rw m (along_on n k l (neither (stands_in (suc k) l) (misplaced (suc k)) e).0 (neither (stands_in (suc k) l) (misplaced (suc k)) e).1)
+  pub along_more : (n k : ℕ) (l : List ℕ) → (k ≡ 0 → ⊥) → stands_in k l || misplaced k ≡ false → along thread q (suc n) k l ≡ along thread q n (thread k).next (l ++ (k ∷ []))
+  along_more n zero l h e = absurd (h refl)
+  along_more n (suc k) l h e = along_on n k l (neither (stands_in (suc k) l) (misplaced (suc k)) e).0 (neither (stands_in (suc k) l) (misplaced (suc k)) e).1
 
   -- the thread come to after n threads is found met twice exactly if it was met
   pub next-twice : (n k j : ℕ) (l : List ℕ) → ended (along thread q n k l) ≡ false → get_or (chain thread (suc n) k) n 0 ≡ suc j → (along thread q (suc n) k l).twice ≡ stands_in (suc j) (along thread q n k l).met

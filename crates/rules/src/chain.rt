@@ -1,60 +1,40 @@
-// Rule 13: the queues as chains, over the thread records as bytes.
+// Rule 13: the queues as chains.
 ghost use Rattle.std.specs.Prelude.{◌≡◌, get_or};
 ghost use Rattle.state.specs.Record.{thread_in};
 ghost use Rattle.state.specs.Rules.{placed_in, chains_in};
 ghost use Rattle.rules.specs.Walk.{has_bit, walk_to, Represents, RepresentsAlong};
-ghost use Rattle.rules.specs.Model.Bytes.{thread_in_bytes};
-ghost use Rattle.rules.specs.Model.Chain.{with_bit, queued, none_missed, record_bytes};
+ghost use Rattle.rules.specs.Model.Chain.{with_bit, queued, none_missed};
 
-use state::Thread;
-use state::chain::first_at;
-use state::layout::Width;
-use state::queues::{get, queued_in};
+use state::access::at;
+use state::queues::queued_in;
+use state::range::{each, in_range};
+use state::{Chains, Thread};
 
 // The threads met so far, bit k for thread k; whether the walk ended at a thread met already, and whether at one not placed in its queue.
-#[derive(Clone, Copy)]
+// kept: three fields and no Result, since `OneAnswer` and `OneNumber` of specs/Walk.antt are stated of them, and both tests may fail at one thread.
+#[derive(Clone, Copy, Debug, PartialEq, Eq)]
 pub(crate) struct Walked {
     pub met: u64,
     pub twice: bool,
     pub misplaced: bool,
 }
 
-pub(crate) fn has_bit(met: u64, k: u8) -> bool
+fn has_bit(met: u64, k: u8) -> bool
     ensures { result ≡ has_bit met k }
 {
     let i = k as u64;
     if i < 64 { (met >> i) % 2 == 1 } else { false }
 }
 
-pub(crate) fn with_bit(met: u64, k: u8) -> u64
+fn with_bit(met: u64, k: u8) -> u64
     ensures { result ≡ with_bit met k }
 {
     let i = k as u64;
     if i < 64 { met | (1u64 << i) } else { met }
 }
 
-pub(crate) fn thread_in_bytes(threads: &[u8], k: u8) -> Thread
-    ensures { result ≡ thread_in_bytes threads.now k }
-{
-    let there = (1 <= k) & (k <= 32);
-    if there {
-        let at = Width::THREAD * ((k as usize) - 1);
-        Thread {
-            status: get(threads, at),
-            holder: get(threads, at + 1),
-            next: get(threads, at + 2),
-        }
-    } else {
-        Thread {
-            status: 0,
-            holder: 0,
-            next: 0,
-        }
-    }
-}
-
 // The thread is placed in queue q.
-pub(crate) fn placed_in(x: Thread, q: u8) -> bool
+fn placed_in(x: Thread, q: u8) -> bool
     ensures { result ≡ placed_in x q }
 {
     let there = queued_in(q);
@@ -62,15 +42,17 @@ pub(crate) fn placed_in(x: Thread, q: u8) -> bool
 }
 
 // At most `most` threads of queue q's chain, after the threads met before.
-pub(crate) fn walk(threads: &[u8], q: u8, first: u8, most: u8, before: u64) -> Walked
-    ensures { RepresentsAlong (thread_in_bytes threads.now) q most first before result }
+fn walk(c: &Chains, q: u8, most: u8, before: u64) -> Walked
+    ensures { RepresentsAlong (thread_in c.now.threads) q most (get_or c.now.firsts q 0) before result }
 {
     let mut met = before;
-    let mut at = first;
-    let mut left = most;
-    while (0 < left) & (at != 0) {
-        let x = thread_in_bytes(threads, at);
-        let twice = has_bit(met, at);
+    let mut k = at(&c.firsts, q as usize);
+    for _ in 0..most {
+        if k == 0 {
+            break;
+        }
+        let x = at(&c.threads, k as usize);
+        let twice = has_bit(met, k);
         let misplaced = !placed_in(x, q);
         if twice | misplaced {
             return Walked {
@@ -79,9 +61,8 @@ pub(crate) fn walk(threads: &[u8], q: u8, first: u8, most: u8, before: u64) -> W
                 misplaced,
             };
         }
-        met = with_bit(met, at);
-        at = x.next;
-        left -= 1;
+        met = with_bit(met, k);
+        k = x.next;
     }
     Walked {
         met,
@@ -92,71 +73,40 @@ pub(crate) fn walk(threads: &[u8], q: u8, first: u8, most: u8, before: u64) -> W
 
 // The chains of all queues before `last` in order, then at most `most` threads of that one's.
 // Of a chain 33 threads are looked at: of 32 threads one is then met a second time.
-pub(crate) fn walk_to(threads: &[u8], firsts: [u8; 17], last: u8, most: u8) -> Walked
-    ensures { Represents (walk_to (thread_in_bytes threads.now) (λ q. get_or firsts q 0) last most) result }
+fn walk_to(c: &Chains, last: u8, most: u8) -> Walked
+    ensures { Represents (walk_to (thread_in c.now.threads) (λ q. get_or c.now.firsts q 0) last most) result }
 {
     let mut met: u64 = 0;
-    let mut q: u8 = 0;
-    while q < last {
-        let w = walk(threads, q, first_at(firsts, q), 33, met);
+    for q in 0..last {
+        let w = walk(c, q, 33, met);
         if w.twice | w.misplaced {
             return w;
         }
         met = w.met;
-        q += 1;
     }
-    walk(threads, last, first_at(firsts, last), most, met)
+    walk(c, last, most, met)
 }
 
 // The thread is placed in one of the queues.
-pub(crate) fn queued(x: Thread) -> bool
+fn queued(x: Thread) -> bool
     ensures { result ≡ queued x }
 {
-    ((x.status == 1) & (x.holder <= 8)) | ((x.status == 2) & ((1 <= x.holder) & (x.holder <= 8)))
+    ((x.status == 1) & (x.holder <= 8)) | ((x.status == 2) & in_range(1, 8, x.holder))
 }
 
 // Each of the threads 1 to t that is placed in a queue was met.
-pub(crate) fn none_missed(threads: &[u8], met: u64, t: u8) -> bool
-    ensures { result ≡ none_missed (thread_in_bytes threads.now) met t }
+fn none_missed(c: &Chains, met: u64, t: u8) -> bool
+    ensures { result ≡ none_missed (thread_in c.now.threads) met t }
 {
-    let mut ok = true;
-    let mut k: u8 = 0;
-    while k < t {
-        k += 1;
-        ok = ok & (!queued(thread_in_bytes(threads, k)) | has_bit(met, k));
-    }
-    ok
+    each(1, t, |k| {
+        !queued(at(&c.threads, k as usize)) | has_bit(met, k)
+    })
 }
 
-// Rule 13 over the thread records' bytes: no chain meets a thread twice or one not placed there, and none placed there is missed.
-pub fn chains_ok(threads: &[u8], firsts: [u8; 17], t: u8) -> bool
-    ensures { result ≡ chains_in (thread_in_bytes threads.now) (λ q. get_or firsts q 0) t }
+// No chain meets a thread twice or one not placed there, and none placed there is missed.
+pub fn chains_ok(c: &Chains, t: u8) -> bool
+    ensures { result ≡ chains_in (thread_in c.now.threads) (λ q. get_or c.now.firsts q 0) t }
 {
-    let w = walk_to(threads, firsts, 16, 33);
-    !w.twice & !w.misplaced & none_missed(threads, w.met, t)
-}
-
-// A record's threads 1 to 32 as a picture has them.
-pub(crate) fn record_bytes(threads: [Thread; 33]) -> [u8; 128]
-    ensures { result ≡ record_bytes threads 32 }
-{
-    let mut bytes = [0u8; 128];
-    let mut k: usize = 0;
-    while k < 32 {
-        let x = threads[k + 1];
-        let at = Width::THREAD * k;
-        bytes[at] = x.status;
-        bytes[at + 1] = x.holder;
-        bytes[at + 2] = x.next;
-        k += 1;
-    }
-    bytes
-}
-
-// Rule 13 of a record.
-pub(crate) fn record_chains_ok(threads: [Thread; 33], firsts: [u8; 17], t: u8) -> bool
-    ensures { result ≡ chains_in (thread_in threads) (λ q. get_or firsts q 0) t }
-{
-    let bytes = record_bytes(threads);
-    chains_ok(&bytes, firsts, t)
+    let w = walk_to(c, 16, 33);
+    !w.twice & !w.misplaced & none_missed(c, w.met, t)
 }

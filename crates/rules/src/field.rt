@@ -2,18 +2,110 @@
 ghost use Rattle.std.specs.Prelude.{◌≡◌, ◌&&◌, get_or};
 ghost use Rattle.state.specs.Record.{thread_in, processor_in, mutex_in};
 ghost use Rattle.reference.specs.Lists.{in_range, each};
+ghost use Rattle.reference.specs.State.{queues};
 ghost use Rattle.state.specs.Rules.{token_ok, probe_ok, processor_ok, mutex_ok, holder_ok, next_ok, thread_ok, first_ok, fields_ok};
 
-use crate::register;
+use crate::register::{CURRENT, MUTEX, OBSERVED, TRANSIT, column, register_ok};
+use state::access::at;
 use state::queues::ready_queues;
+use state::range::{each, in_range};
 use state::{Mutex, Processor, State, Thread, Token};
 
-pub(crate) fn token_ok(p: u8, t: Token) -> bool
-    ensures { result ≡ token_ok p t }
-{
-    (t.processor <= p)
-        & (t.sequence <= 4000)
-        & (((t.processor == 0) & (t.sequence == 0)) | ((0 < t.processor) & (0 < t.sequence)))
+// How many processors, threads and mutexes there are, and the choice of ready queues: what the tests of fields compare with.
+#[derive(Clone, Copy, Debug, PartialEq, Eq)]
+pub struct Sizes {
+    pub p: u8,
+    pub t: u8,
+    pub m: u8,
+    pub stealing: u8,
+}
+
+impl Sizes {
+    pub fn fit(self) -> bool
+        ensures { result ≡ in_range 1 8 self.p && in_range 1 32 self.t && in_range 1 8 self.m }
+    {
+        in_range(1, 8, self.p) & in_range(1, 32, self.t) & in_range(1, 8, self.m)
+    }
+
+    fn token_ok(self, t: Token) -> bool
+        ensures { result ≡ token_ok self.p t }
+    {
+        (t.processor <= self.p)
+            & (t.sequence <= 4000)
+            & (((t.processor == 0) & (t.sequence == 0)) | ((0 < t.processor) & (0 < t.sequence)))
+    }
+
+    #[tactic(auto, unfolding(state::specs::Rules::processor_ok))]
+    fn processor_ok(self, x: Processor) -> bool
+        ensures { result ≡ processor_ok self.p self.t self.m (queues self.stealing self.p) x }
+    {
+        let n = ready_queues(self.stealing, self.p);
+        let line = x.position;
+        (line <= 24)
+            & register_ok(column(CURRENT, line, 1), self.t, x.current)
+            & register_ok(column(TRANSIT, line, 0), self.t, x.transit)
+            & register_ok(column(MUTEX, line, 0), self.m, x.mutex)
+            & register_ok(column(OBSERVED, line, 0), self.p, x.observed.processor)
+            & self.token_ok(x.observed)
+            & (x.sequence <= 4000)
+            & (x.answer <= 2)
+            & probe_ok(n, line, x.probe)
+    }
+
+    #[tactic(auto, unfolding(state::specs::Rules::mutex_ok))]
+    fn mutex_ok(self, x: Mutex) -> bool
+        ensures { result ≡ mutex_ok self.p self.t x }
+    {
+        ((x.count as u16) <= (self.t as u16) + 1) & (x.owner <= self.t) & self.token_ok(x.token)
+    }
+
+    fn holder_ok(self, x: Thread) -> bool
+        ensures { result ≡ holder_ok self.p self.m self.stealing x }
+    {
+        if x.status == 2 {
+            return in_range(1, self.m, x.holder);
+        }
+        let held = (x.status == 3) | (x.status == 4) | ((x.status == 1) & (self.stealing == 1));
+        if held {
+            in_range(1, self.p, x.holder)
+        } else {
+            x.holder == 0
+        }
+    }
+
+    fn next_ok(self, x: Thread) -> bool
+        ensures { result ≡ next_ok self.t x }
+    {
+        let queued = (x.status == 1) | (x.status == 2);
+        if queued {
+            x.next <= self.t
+        } else {
+            x.next == 0
+        }
+    }
+
+    #[tactic(auto, unfolding(state::specs::Rules::thread_ok))]
+    fn thread_ok(self, x: Thread) -> bool
+        ensures { result ≡ thread_ok self.p self.t self.m self.stealing x }
+    {
+        (x.status <= 5) & self.holder_ok(x) & self.next_ok(x)
+    }
+
+    // Queue q is there, its first a thread or none; or it is not there and has none.
+    fn first_ok(self, q: u8, first: u8) -> bool
+        ensures { result ≡ first_ok self.p self.t self.m self.stealing q first }
+    {
+        let own = if self.stealing == 0 {
+            q == 0
+        } else {
+            (9 <= q) & ((q as u16) <= 8 + (self.p as u16))
+        };
+        if in_range(1, self.m, q) | own {
+            first <= self.t
+        } else {
+            first == 0
+        }
+    }
 }
 
 // CI2 alone has a look number, below n.
@@ -21,185 +113,33 @@ fn probe_ok(n: u8, position: u8, probe: u8) -> bool
     ensures { result ≡ probe_ok n position probe }
 {
     if position == 1 {
-        if n == 0 {
-            return probe == 0;
-        }
-        return probe < n;
-    }
-    probe == 0
-}
-
-pub(crate) fn processor_ok(p: u8, t: u8, m: u8, n: u8, x: Processor) -> bool
-    ensures { result ≡ processor_ok p t m n x }
-{
-    let probe = probe_ok(n, x.position, x.probe);
-    let current = register::register_ok(
-        register::column(register::CURRENT, x.position, 1),
-        t,
-        x.current,
-    );
-    let transit = register::register_ok(
-        register::column(register::TRANSIT, x.position, 0),
-        t,
-        x.transit,
-    );
-    let mutex = register::register_ok(register::column(register::MUTEX, x.position, 0), m, x.mutex);
-    let seen = x.observed;
-    let observed = register::register_ok(
-        register::column(register::OBSERVED, x.position, 0),
-        p,
-        seen.processor,
-    );
-    let token = token_ok(p, seen);
-    (x.position <= 24)
-        & current
-        & transit
-        & mutex
-        & observed
-        & token
-        & (x.sequence <= 4000)
-        & (x.answer <= 2)
-        & probe
-}
-
-pub(crate) fn mutex_ok(p: u8, t: u8, x: Mutex) -> bool
-    ensures { result ≡ mutex_ok p t x }
-{
-    let token = token_ok(p, x.token);
-    ((x.count as u16) <= (t as u16) + 1) & (x.owner <= t) & token
-}
-
-pub(crate) fn holder_ok(p: u8, m: u8, stealing: u8, x: Thread) -> bool
-    ensures { result ≡ holder_ok p m stealing x }
-{
-    if x.status == 2 {
-        return (1 <= x.holder) & (x.holder <= m);
-    }
-    let held = (x.status == 3) | (x.status == 4) | ((x.status == 1) & (stealing == 1));
-    if held {
-        (1 <= x.holder) & (x.holder <= p)
+        probe <= n.saturating_sub(1)
     } else {
-        x.holder == 0
+        probe == 0
     }
 }
 
-pub(crate) fn next_ok(t: u8, x: Thread) -> bool
-    ensures { result ≡ next_ok t x }
-{
-    let queued = (x.status == 1) | (x.status == 2);
-    if queued { x.next <= t } else { x.next == 0 }
-}
-
-pub(crate) fn thread_ok(p: u8, t: u8, m: u8, stealing: u8, x: Thread) -> bool
-    ensures { result ≡ thread_ok p t m stealing x }
-{
-    (x.status <= 5) & holder_ok(p, m, stealing, x) & next_ok(t, x)
-}
-
-pub(crate) fn processors_ok(p: u8, t: u8, m: u8, n: u8, processors: [Processor; 9]) -> bool
-    ensures { result ≡ each (λ i. processor_ok p t m n (processor_in processors i)) 1 p }
-{
-    let mut ok = true;
-    let mut i: u8 = 0;
-    while i < p {
-        i += 1;
-        let j = i as usize;
-        let x = if j < 9 {
-            processors[j]
-        } else {
-            Processor::zero()
-        };
-        ok = ok & processor_ok(p, t, m, n, x);
-    }
-    ok
-}
-
-pub(crate) fn mutexes_ok(p: u8, t: u8, m: u8, mutexes: [Mutex; 9]) -> bool
-    ensures { result ≡ each (λ i. mutex_ok p t (mutex_in mutexes i)) 1 m }
-{
-    let mut ok = true;
-    let mut i: u8 = 0;
-    while i < m {
-        i += 1;
-        let j = i as usize;
-        let x = if j < 9 { mutexes[j] } else { Mutex::zero() };
-        ok = ok & mutex_ok(p, t, x);
-    }
-    ok
-}
-
-// Queue q is there, its first a thread or none; or it is not there and has none.
-fn first_ok(p: u8, t: u8, m: u8, stealing: u8, q: u8, first: u8) -> bool
-    ensures { result ≡ first_ok p t m stealing q first }
-{
-    let waits = (1 <= q) & (q <= m);
-    if waits {
-        return first <= t;
-    }
-    if stealing == 0 {
-        if q == 0 {
-            return first <= t;
-        }
-        return first == 0;
-    }
-    if q <= 8 {
-        return first == 0;
-    }
-    if q - 8 <= p { first <= t } else { first == 0 }
-}
-
-fn firsts_ok(p: u8, t: u8, m: u8, stealing: u8, firsts: [u8; 17]) -> bool
-    ensures { result ≡ each (λ q. first_ok p t m stealing q (get_or firsts q 0)) 0 17 }
-{
-    let mut ok = true;
-    let mut q: u8 = 0;
-    while q < 17 {
-        let j = q as usize;
-        ok = ok & first_ok(p, t, m, stealing, q, firsts[j]);
-        q += 1;
-    }
-    ok
-}
-
-pub(crate) fn threads_ok(p: u8, t: u8, m: u8, stealing: u8, threads: [Thread; 33]) -> bool
-    ensures { result ≡ each (λ k. thread_ok p t m stealing (thread_in threads k)) 1 t }
-{
-    let mut ok = true;
-    let mut k: u8 = 0;
-    while k < t {
-        k += 1;
-        let i = k as usize;
-        let x = if i < 33 { threads[i] } else { Thread::zero() };
-        ok = ok & thread_ok(p, t, m, stealing, x);
-    }
-    ok
-}
-
-pub(crate) fn sizes_ok(p: u8, t: u8, m: u8) -> bool
-    ensures { result ≡ in_range 1 8 p && in_range 1 32 t && in_range 1 8 m }
-{
-    (1 <= p) & (p <= 8) & ((1 <= t) & (t <= 32)) & ((1 <= m) & (m <= 8))
-}
-
+#[tactic(auto, unfolding(state::specs::Rules::fields_ok))]
 pub fn fields_ok(s: State) -> bool
     ensures { result ≡ fields_ok s }
 {
-    let chains = s.chains;
-    let firsts = chains.firsts;
-    let threads = chains.threads;
-    let processors = s.processors;
-    let mutexes = s.mutexes;
-    let sizes = sizes_ok(s.p, s.t, s.m);
-    let firsts_fit = firsts_ok(s.p, s.t, s.m, s.stealing, firsts);
-    let n = ready_queues(s.stealing, s.p);
-    let processors_fit = processors_ok(s.p, s.t, s.m, n, processors);
-    let mutexes_fit = mutexes_ok(s.p, s.t, s.m, mutexes);
-    let threads_fit = threads_ok(s.p, s.t, s.m, s.stealing, threads);
-    sizes
+    let sizes = Sizes {
+        p: s.p,
+        t: s.t,
+        m: s.m,
+        stealing: s.stealing,
+    };
+    let firsts = s.chains.firsts;
+    let threads = s.chains.threads;
+    sizes.fit()
         & (s.stealing <= 1)
         & (s.applied <= 4000)
-        & firsts_fit
-        & processors_fit
-        & mutexes_fit
-        & threads_fit
+        & each(0, 17, |q| sizes.first_ok(q, at(&firsts, q as usize)))
+        & each(
+            1,
+            s.p,
+            |i| sizes.processor_ok(at(&s.processors, i as usize)),
+        )
+        & each(1, s.m, |i| sizes.mutex_ok(at(&s.mutexes, i as usize)))
+        & each(1, s.t, |k| sizes.thread_ok(at(&threads, k as usize)))
 }

@@ -2,6 +2,7 @@
 #![tactic(auto)]
 
 ghost use Rattle.std.specs.Prelude.{◌≡◌};
+ghost use Rattle.state.specs.Refusal.{outcome};
 ghost use Rattle.state.specs.Rules.{broken_rule, state_ok, session_ok};
 
 pub mod chain;
@@ -10,46 +11,40 @@ pub mod holder;
 mod register;
 mod zero;
 
+use state::range::in_range;
 use state::refusal::Refusal;
 use state::{Session, State};
 
-// The first rule of a picture that the record breaks, or 0.
-pub fn broken_rule(s: State) -> u8
-    ensures { result ≡ broken_rule s }
+// The first rule of a picture that the record breaks.
+#[tactic(auto, unfolding(state::specs::Refusal::outcome, state::specs::Refusal::number, state::specs::Rules::broken_rule, state::specs::Rules::chains_ok))]
+pub fn broken_rule(s: State) -> Result<(), Refusal>
+    ensures { outcome result ≡ broken_rule s }
 {
-    let fields = field::fields_ok(s);
-    if !fields {
-        return Refusal::BAD_FIELD;
+    if !field::fields_ok(s) {
+        return Err(Refusal::BadField);
     }
-    let chains = s.chains;
-    let threads = chains.threads;
-    let firsts = chains.firsts;
-    let chained = chain::record_chains_ok(threads, firsts, s.t);
-    if !chained {
-        return Refusal::BAD_CHAIN;
+    if !chain::chains_ok(&s.chains, s.t) {
+        return Err(Refusal::BadChain);
     }
-    let held = holder::holders_ok(s);
-    if !held {
-        return Refusal::BAD_HOLDER;
+    if !holder::holders_ok(s) {
+        return Err(Refusal::BadHolder);
     }
-    0
+    Ok(())
 }
 
 // The record keeps the rules, and is zero where its picture does not reach.
+#[tactic(auto, unfolding(state::specs::Rules::state_ok))]
 pub fn state_ok(s: State) -> bool
     ensures { result ≡ state_ok s }
 {
-    let broken = broken_rule(s);
-    (broken == 0) & zero::zero_past(s)
+    broken_rule(s).is_ok() & zero::zero_past(s)
 }
 
 // And B is 1 to T, and the number kept not below the standing moves nor above 4,000.
+#[tactic(auto, unfolding(state::specs::Rules::session_ok))]
 pub fn session_ok(r: Session) -> bool
     ensures { result ≡ session_ok r }
 {
-    let state = r.state;
-    let t = state.t;
-    let created = (1 <= r.initial) & (r.initial <= t);
-    let kept = (state.applied <= r.kept) & (r.kept <= 4000);
-    state_ok(state) & created & kept
+    let kept = (r.state.applied <= r.kept) & (r.kept <= 4000);
+    state_ok(r.state) & in_range(1, r.state.t, r.initial) & kept
 }

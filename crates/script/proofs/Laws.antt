@@ -1,14 +1,17 @@
 -- Laws of a script's bytes.
 -- Assumes nothing.
-use Prim.Native.Nat.{ℕ, zero, suc, ◌+◌, ◌-◌, ◌*◌, ◌%◌, ◌≤◌, ◌<◌}
+use Prim.Native.Nat.{ℕ, zero, suc, ◌+◌, ◌-◌, ◌*◌, ◌/◌, ◌%◌, ◌≤◌}
 use native.Mathlib.Numerals.{add-one}
 use native.Mathlib.Omega.{arith}
 use mathlib.Core.Bool.{true, ◌&&◌}
 use mathlib.Core.Path.{◌≡◌, refl, ap, ◌∙◌}
-use mathlib.Core.List.{List, [], ◌∷◌, ◌++◌}
+use mathlib.Core.List.{List, [], ◌∷◌, ◌++◌, append_assoc}
 use lib.Dec.{eqb, leb}
-use lib.ListN.{length, get_or, set, take, drop, replicate, length-append, length-replicate}
-use lib.Seq.{paste, paste-suc, take_all}
+use lib.ListN.{length, get_or, set, take, drop, replicate, length-append, length-drop, length-replicate, length-set}
+use lib.Seq.{length-take-le, take-suc-set, drop-drop}
+use borrow.Rule.Slice.PartMut.{put_mid, mid_of, same_len_mid}
+use Rattle.std.proofs.lemmas.Slice.{take-put_mid, drop-put_mid}
+use Rattle.std.proofs.lemmas.List.{drop-set-lt}
 use borrow.Author.Tests.{leb-true}
 use Rattle.reference.specs.Lists.{in_range, each}
 use Rattle.reference.proofs.Tests.{both_left, both_right, range_true}
@@ -33,15 +36,28 @@ padded (x ∷ c) n (suc i) = padded c n i
 pub script_length_13 : (c : List ℕ) → length c ≤ 12 → length (script_bytes c) ≡ 13
 script_length_13 c h = simp (length-append, length-replicate) (omega arith)
 
--- one byte more of a script that is written, and the last
-pub write-next : (x c : List ℕ) (at i : ℕ) → at + 13 ≤ length x → length c ≤ 12 → i < 13 → set (paste x at (script_bytes c) i) (at + i) (get_or (script_bytes c) i 0) ≡ paste x at (script_bytes c) (i + 1)
-write-next x c at i h k l = paste-suc x at (script_bytes c) i 0 (omega arith) (omega (arith, script_length_13 c k)) ∙ rw add-one
+mid-length : (a k : ℕ) (w : List ℕ) → a + k ≤ length w → length (mid_of a k w) ≡ k
+mid-length a k w h = length-take-le k (drop a w) (omega (arith, length-drop a w))
 
-pub write-end : (x c : List ℕ) (at i : ℕ) → length c ≤ 12 → i ≡ 13 → paste x at (script_bytes c) i ≡ take at x ++ script_bytes c ++ drop (at + 13) x
-write-end x c at i h e =
-    let n = script_length_13 c h in
-    let t : take 13 (script_bytes c) ≡ script_bytes c = take_all 13 (script_bytes c) (omega arith) in
-    rw (e, t)
+between : (w z p q : List ℕ) (a m : ℕ) → take a w ≡ p → drop (a + m) w ≡ q → put_mid a m w z ≡ p ++ (z ++ q)
+between w z p q a m e f = rw (drop-drop, e, f)
+
+-- the length of the calls, the calls and zeros, written one behind the other
+pub pieces : (x c y z : List ℕ) (a k m : ℕ) → a + 13 ≤ length x → length c ≤ 12 → y ≡ c → k ≡ length c → m ≡ 12 - length c →
+    z ≡ replicate (length (mid_of (a + 1 + length c) m (put_mid (a + 1) k (set x a (length c / 2)) y))) 0 →
+    put_mid (a + 1 + length c) m (put_mid (a + 1) k (set x a (length c / 2)) y) z ≡ take a x ++ script_bytes c ++ drop (a + 13) x
+pieces x c y z a k m h l ey ek em ez =
+    let v : ℕ = length c / 2 in
+    let n : length (set x a v) ≡ length x = length-set x a v in
+    let one : take (a + 1) (set x a v) ≡ take a x ++ (v ∷ []) = rw add-one (take-suc-set x a v (omega arith)) in
+    let front : take (a + 1 + length c) (put_mid (a + 1) k (set x a v) y) ≡ (take a x ++ (v ∷ [])) ++ c =
+    take-put_mid (a + 1) k _ y _ (rw ey refl) (omega arith) ∙ rw (one, ey) refl in
+    let far : drop (a + 13) (put_mid (a + 1) k (set x a v) y) ≡ drop (a + 13) x =
+    drop-put_mid (a + 1) k _ y (a + 13) (omega arith) (omega arith) (rw (ey, ek)) ∙ drop-set-lt (a + 13) x a _ (omega arith) in
+    let e : a + 1 + length c + m ≡ a + 13 = omega arith in
+    let long : length (put_mid (a + 1) k (set x a v) y) ≡ length x = same_len_mid (a + 1) k (set x a v) y (rw (ey, mid-length (a + 1) k (set x a v) (omega arith)) (omega arith)) ∙ n in
+    let fill : length (mid_of (a + 1 + length c) m (put_mid (a + 1) k (set x a v) y)) ≡ m = mid-length (a + 1 + length c) m _ (omega arith) in
+    between _ z _ (drop (a + 13) x) (a + 1 + length c) m front (rw e far) ∙ rw (ez, fill, em) (simp append_assoc refl)
 
 -- ---- a setting that is accepted
 

@@ -10,7 +10,6 @@ use lib.ListN.{length, take}
 use borrow.Author.Tests.{lt-ltb, le-ltb, ltb-false, eqb-true, eq-eqb, ne_eqb, not-false}
 use Rattle.state.specs.declared.State.{State as Record}
 use Rattle.state.specs.declared.Session.{Session}
-use Rattle.session.specs.declared.MoveAnswer.{MoveAnswer}
 use Rattle.state.specs.Record.{zero_session, Sized}
 use Rattle.state.specs.Association.{encode, decode, session_record}
 use Rattle.state.specs.Rules.{session_ok}
@@ -26,11 +25,10 @@ use Rattle.reference.proofs.Legal.{legal}
 use Rattle.shown.proofs.Kept.{state-kept, fields_say}
 use Rattle.shown.proofs.Unique.{session-held}
 use Rattle.agreement.proofs.Moved.{refusal, not-refused}
-use Rattle.touch.specs.declared.Made.{Made}
 use Rattle.touch.specs.Association.{touch_record}
-use Rattle.touch.specs.Model.Made.{made_of}
+use Rattle.touch.specs.Model.Made.{Made, made_of}
 use Rattle.touch.proofs.Agrees.{made-valid}
-use Rattle.session.specs.Contract.{shown, started, or_later, lent_refusal, matches, test_refusal, move_refusal, moved, written_at, journal_after, front}
+use Rattle.session.specs.Contract.{MoveAnswer, shown, started, or_later, lent_refusal, matches, test_refusal, move_refusal, moved, written_at, journal_after, front}
 use Rattle.session.specs.Model.Replay.{stored, continued}
 use Rattle.session.proofs.Standing.{sets-written}
 

@@ -3,23 +3,22 @@
 use Prim.Native.Nat.{ℕ, ◌-◌, ◌*◌, ◌≤◌, ◌<◌}
 use mathlib.Core.Bool.{Bool, true, false, ◌&&◌, true≢false}
 use mathlib.Core.List.{List, []}
+use Rattle.std.specs.Prelude.{Some, None}
 use mathlib.Core.Path.{◌≡◌, refl, sym, ap, ◌∙◌, subst}
 use native.Mathlib.Omega.{arith}
 use lib.Dec.{eqb}
 use lib.ListN.{length, take}
 use borrow.Author.Tests.{le-leb, lt-leb, eq-eqb, eqb-true, ne_eqb}
-use Rattle.session.specs.declared.replay.Found.{Found}
 use Rattle.state.specs.declared.Session.{Session}
 use Rattle.state.specs.declared.State.{State as Record}
 use Rattle.state.specs.Association.{encode, decode}
 use Rattle.state.specs.Rules.{state_ok, session_ok}
-use Rattle.state.specs.Allowed.{Allowed}
 use Rattle.state.specs.Record.{Sized}
+use Rattle.state.specs.contracts.StatePartialEq.TheImpl as same
 use Rattle.state.specs.Model.Access.{start_record}
-use Rattle.step.specs.declared.Run.{Run}
-use Rattle.step.specs.Model.Moves.{run_from, run_of, counted_from, counted_of}
+use Rattle.step.specs.Model.Moves.{Run, run_from, run_of, counted_from, counted_of}
 use Rattle.step.proofs.Split.{Alike, both-made, front-refused}
-use Rattle.reference.specs.Lists.{in_range}
+use Rattle.reference.specs.Lists.{in_range, choose}
 use Rattle.reference.specs.State.{same_state}
 use Rattle.reference.specs.Start.{Config, config_cause, start}
 use Rattle.reference.specs.Step.{Move, run}
@@ -28,11 +27,12 @@ use Rattle.reference.specs.Session.{moves, replays}
 use Rattle.reference.proofs.Tests.{both_left, both_right, range_true, true_range}
 use Rattle.reference.proofs.Same.{same_state_exact}
 use Rattle.shown.proofs.Kept.{state-kept, fields_say}
-use Rattle.shown.proofs.Decode.{decode-encode, encode-ok}
+use Rattle.shown.proofs.Decode.{decode-encode}
 use Rattle.shown.proofs.Reached.{reached-allowed}
 use Rattle.shown.proofs.Unique.{session-held}
 use Rattle.session.specs.Contract.{shown, config_of, lent_refusal, matches}
-use Rattle.session.specs.Model.Replay.{between, first_record, counted_to, farther, Reaches, Compares, Replays}
+use Rattle.session.specs.Model.Replay.{between, first_record, counted_to, farther, all_made, Reaches}
+use Rattle.session.proofs.Equal.{state_exact}
 use Rattle.session.proofs.Answers.{lent_passed}
 use Rattle.session.proofs.Replayed.{Made, made_all}
 use Rattle.session.proofs.Standing.{accepted-within}
@@ -68,20 +68,13 @@ module _ (r : Session) (ok : session_ok r ≡ true) where
   shown-back : Sized r.state → encode (shown r) ≡ r.state
   shown-back size = ap (λ (x : Session). x.state) (session-held r size ok).same
 
--- the record of the state that accepted moves give, from that start table
+-- the states are the same exactly where the records are, once the moves are accepted
 module _ (r : Session) (size : Sized r.state) (ok : session_ok r ≡ true) (ms : List Move) (legal : accepted (start (config_of r)) ms ≡ true) (s : Record)
     (is : s ≡ encode (run (start (config_of r)) ms)) where
-  allowed : Allowed (run (start (config_of r)) ms)
-  allowed = reached-allowed (config_of r) (config-right r ok) ms legal
-
-  pub given_ok : state_ok s ≡ true
-  given_ok = rw is (encode-ok _ allowed)
-
   back : decode s ≡ run (start (config_of r)) ms
-  back = rw is (decode-encode _ allowed)
+  back = rw is (decode-encode _ (reached-allowed (config_of r) (config-right r ok) ms legal))
 
-  -- the states are the same exactly where the records are
-  pub alike_is : (b : Bool) → (b ≡ true → s ≡ r.state) → (s ≡ r.state → b ≡ true) → b ≡ same_state (run (start (config_of r)) ms) (shown r)
+  alike_is : (b : Bool) → (b ≡ true → s ≡ r.state) → (s ≡ r.state → b ≡ true) → b ≡ same_state (run (start (config_of r)) ms) (shown r)
   alike_is true f g = sym (rw (sym back ∙ ap decode (f refl)) (same_state_exact.itself (shown r)))
   alike_is false f g = by (same_state (run (start (config_of r)) ms) (shown r)) refl
     where
@@ -134,9 +127,24 @@ module _ (c : Config) (right : config_cause c ≡ 0) (j : List ℕ) (a b : ℕ) 
 
 -- no moves
 pub part_none : (a b : ℕ) → a ≡ b → (s : Record) (j calls : List ℕ) →
-    (record { refusal = 0; made = 0; state = s } ≡ run_of s (between a b j)) × (calls ≡ counted_of s (between a b j) calls)
+    (Some s ≡ all_made (run_of s (between a b j))) × (calls ≡ counted_of s (between a b j) calls)
 unfolding run_from counted_from
 part_none a b e s j calls = let z : 3 * b - 3 * a ≡ 0 = omega arith in rw z (refl, refl)
+
+-- whether a run made all its moves
+pub not-made : (g : Run) → None ≡ all_made g → g.refusal ≡ 0 → ⊥
+not-made g h z = let e = rw (eq-eqb g.refusal 0 z) at h in cc
+
+module _ (c : Config) (ms : List Move) (g : Run) (made : Made c ms (eqb g.refusal 0) g.state) where
+  all-of : (x : Record) → Some x ≡ all_made g → Made c ms true x
+  all-of x h = by (eqb g.refusal 0) made h
+    where
+      by : (t : Bool) → Made c ms t g.state → Some x ≡ choose t (Some g.state) None → Made c ms true x
+      by true m e = let same : g.state ≡ x = cc in subst (Made c ms true) same m
+      by false m e = absurd (cc)
+
+  none-of : None ≡ all_made g → accepted (start c) ms ≡ false
+  none-of h = sym made.accepts ∙ ne_eqb g.refusal 0 (not-made g h)
 
 -- ---- the journal's kept moves: the first a, those up to b, then the others
 
@@ -154,95 +162,85 @@ module _ (r : Session) (j : List ℕ) (free : lent_refusal r (length j) ≡ 0) (
   journal-long = omega (arith, (lent_passed r (length j) free).0, (kept_range r ok).1)
 
   -- not all of the first m are accepted
-  none : (m : ℕ) → m ≤ r.kept → (s x : Record) → Made c (moves m j) false x → Reaches r j a b (record { whole = false; low = s; high = s })
-  none m h s x made =
-      record {
-        whole = by (accepted (start c) (moves r.kept j)) refl;
-        low = λ z. absurd (true≢false (sym z));
-        high = λ z. absurd (true≢false (sym z));
-      }
+  none : (m : ℕ) → m ≤ r.kept → accepted (start c) (moves m j) ≡ false → Reaches r j a b None
+  unfolding Reaches
+  none m h e = by (accepted (start c) (moves r.kept j)) refl
     where
-      by : (t : Bool) → accepted (start c) (moves r.kept j) ≡ t → false ≡ t
-      by false e = refl
-      by true e = absurd (true≢false (sym (accepted-within m r.kept j (start c) h e) ∙ sym made.accepts))
+      by : (t : Bool) → accepted (start c) (moves r.kept j) ≡ t → accepted (start c) (moves r.kept j) ≡ false
+      by false z = z
+      by true z = absurd (true≢false (sym (accepted-within m r.kept j (start c) h z) ∙ e))
 
-  -- f: the run of the first a
-  module _ (f : Run) (f-is : f ≡ run_of (first_record r) (between 0 a j)) where
-    front-is : f ≡ run_of (first_record r) (take (3 * a) j)
-    front-is = f-is ∙ ap (run_of (first_record r)) (between-front a j)
+  -- the first a
+  abbrev front : Run
+  front = run_of (first_record r) (between 0 a j)
 
-    f_made : Made c (moves a j) (eqb f.refusal 0) f.state
-    f_made = subst (λ (x : Run). Made c (moves a j) (eqb x.refusal 0) x.state) (sym front-is) (made_all c right a j (omega (arith, journal-long)) (first_record r) refl)
+  front_made : Made c (moves a j) (eqb front.refusal 0) front.state
+  front_made =
+      subst (λ (l : List ℕ). Made c (moves a j) (eqb (run_of (first_record r) l).refusal 0) (run_of (first_record r) l).state) (sym (between-front a j))
+      (made_all c right a j (omega (arith, journal-long)) (first_record r) refl)
 
-    pub f_counts : (calls : List ℕ) → counted_of (first_record r) (between 0 a j) calls ≡ counted_to r a j calls
-    f_counts calls = ap (λ (l : List ℕ). counted_of (first_record r) l calls) (between-front a j)
+  front_counts : (calls : List ℕ) → counted_of (first_record r) (between 0 a j) calls ≡ counted_to r a j calls
+  front_counts calls = ap (λ (l : List ℕ). counted_of (first_record r) l calls) (between-front a j)
 
-    pub front_ends : (f.refusal ≡ 0 → ⊥) → (calls : List ℕ) →
-        Reaches r j a b (record { whole = false; low = f.state; high = f.state }) × (counted_of (first_record r) (between 0 a j) calls ≡ counted_to r b j calls)
-    front_ends z calls = (
-      none a (omega arith) f.state f.state (subst (λ (t : Bool). Made c (moves a j) t f.state) (ne_eqb f.refusal 0 z) f_made),
-      f_counts calls ∙ front-counts c right j a b ab (omega (arith, journal-long)) (λ e. z (ap (λ (x : Run). x.refusal) front-is ∙ e)) calls,
-    )
+  pub low-made : (x : Record) → Some x ≡ all_made front → Made c (moves a j) true x
+  low-made x h = all-of c (moves a j) front front_made x h
 
-    -- m: the run of those up to b
-    module _ (z : f.refusal ≡ 0) (m : Run) (m-is : m ≡ run_of f.state (between a b j)) where
-      f_all : Made c (moves a j) true f.state
-      f_all = subst (λ (t : Bool). Made c (moves a j) t f.state) (eq-eqb f.refusal 0 z) f_made
+  pub front-none : None ≡ all_made front → (calls : List ℕ) → Reaches r j a b None × (counted_of (first_record r) (between 0 a j) calls ≡ counted_to r b j calls)
+  front-none h calls = (
+    none a (omega arith) (none-of c (moves a j) front front_made h),
+    front_counts calls ∙
+    front-counts c right j a b ab (omega (arith, journal-long))
+    (λ e. not-made front h (ap (λ (l : List ℕ). (run_of (first_record r) l).refusal) (between-front a j) ∙ e)) calls,
+  )
 
-      m-made : Made c (moves b j) (eqb m.refusal 0) m.state
-      m-made =
-          subst (λ (x : Run). Made c (moves b j) (eqb x.refusal 0) x.state) (sym m-is)
-          (part-made c right j a b ab (omega (arith, journal-long)) f.state f_all)
+  -- those up to b
+  module _ (x : Record) (low : Made c (moves a j) true x) where
+    abbrev middle : Run
+    middle = run_of x (between a b j)
 
-      pub middle_counts : (calls : List ℕ) →
-          counted_of f.state (between a b j) (counted_of (first_record r) (between 0 a j) calls) ≡ counted_to r b j calls
-      middle_counts calls =
-          ap (counted_of f.state (between a b j)) (f_counts calls) ∙ part-counts c right j a b ab (omega (arith, journal-long)) f.state f_all calls
+    middle_made : Made c (moves b j) (eqb middle.refusal 0) middle.state
+    middle_made = part-made c right j a b ab (omega (arith, journal-long)) x low
 
-      pub middle_ends : (m.refusal ≡ 0 → ⊥) → Reaches r j a b (record { whole = false; low = f.state; high = f.state })
-      middle_ends y = none b top f.state m.state (subst (λ (t : Bool). Made c (moves b j) t m.state) (ne_eqb m.refusal 0 y) m-made)
+    pub middle_counts : (calls : List ℕ) → counted_of x (between a b j) (counted_of (first_record r) (between 0 a j) calls) ≡ counted_to r b j calls
+    middle_counts calls = ap (counted_of x (between a b j)) (front_counts calls) ∙ part-counts c right j a b ab (omega (arith, journal-long)) x low calls
 
-      -- g: the run of the others
-      module _ (y : m.refusal ≡ 0) (g : Run) (g-is : g ≡ run_of m.state (between b r.kept j)) where
-        m-all : Made c (moves b j) true m.state
-        m-all = subst (λ (t : Bool). Made c (moves b j) t m.state) (eq-eqb m.refusal 0 y) m-made
+    pub high-made : (y : Record) → Some y ≡ all_made middle → Made c (moves b j) true y
+    high-made y h = all-of c (moves b j) middle middle_made y h
 
-        pub rest_ends : Reaches r j a b (record { whole = eqb g.refusal 0; low = f.state; high = m.state })
-        rest_ends =
-            record {
-              whole =
-                  ap (λ (x : Run). eqb x.refusal 0) g-is ∙ (part-made c right j b r.kept top journal-long m.state m-all).accepts;
-              low = λ x. f_all.state refl;
-              high = λ x. m-all.state refl;
-            }
+    pub middle-none : None ≡ all_made middle → Reaches r j a b None
+    middle-none h = none b top (none-of c (moves b j) middle middle_made h)
+
+    -- the others
+    module _ (y : Record) (high : Made c (moves b j) true y) where
+      abbrev rest : Run
+      rest = run_of y (between b r.kept j)
+
+      rest_made : Made c (moves r.kept j) (eqb rest.refusal 0) rest.state
+      rest_made = part-made c right j b r.kept top journal-long y high
+
+      pub rest-none : None ≡ all_made rest → Reaches r j a b None
+      rest-none h = none r.kept (omega arith) (none-of c (moves r.kept j) rest rest_made h)
+
+      pub rest-some : (z : Record) → Some z ≡ all_made rest → Reaches r j a b (Some (record { low = x; high = y }))
+      unfolding Reaches
+      rest-some z h = (sym (all-of c (moves r.kept j) rest rest_made z h).accepts, low.state refl, high.state refl)
 
 -- ---- the comparison with the record
 
-module _ (r : Session) (size : Sized r.state) (j : List ℕ) (free : lent_refusal r (length j) ≡ 0) (whole : Bool) (standing : Record)
-    (all : whole ≡ accepted (start (config_of r)) (moves r.kept j))
-    (is : whole ≡ true → standing ≡ encode (run (start (config_of r)) (moves r.state.applied j))) where
-  good : session_ok r ≡ true
-  good = (lent_passed r (length j) free).1
-
-  legal : whole ≡ true → accepted (start (config_of r)) (moves r.state.applied j) ≡ true
-  legal e = accepted-within r.state.applied r.kept j (start (config_of r)) (kept_range r good).0 (sym all ∙ e)
-
-  pub standing-ok : whole ≡ true → state_ok standing ≡ true
-  standing-ok e = given_ok r size good (moves r.state.applied j) (legal e) standing (is e)
-
-  pub found-is : (k : ℕ) (asked : Record) → (whole ≡ true → asked ≡ encode (run (start (config_of r)) (moves k j))) → (x : Found) →
-      Compares whole standing r.state asked x → Replays r j k x
+module _ (r : Session) (size : Sized r.state) (j : List ℕ) (free : lent_refusal r (length j) ≡ 0) where
+  pub matches-is : (standing : Record) → accepted (start (config_of r)) (moves r.kept j) ≡ true →
+      standing ≡ encode (run (start (config_of r)) (moves r.state.applied j)) → (b : Bool) → b ≡ same.eq-value.it standing r.state → b ≡ matches r j
   unfolding matches replays decode
-  found-is k asked to x w = record { agrees = by whole refl; state = λ e. w.state ∙ to (w.agrees e).0 }
-    where
-      by : (t : Bool) → whole ≡ t → x.agrees ≡ matches r j
-      by true e =
-          alike_is r size good (moves r.state.applied j) (legal e) standing (is e) x.agrees (λ z. (w.agrees z).1) (w.same e) ∙ sym (rw (sym all ∙ e))
-      by false e = (not_agreed x.agrees refl) ∙ sym (rw (sym all ∙ e))
-        where
-          not_agreed : (t : Bool) → x.agrees ≡ t → x.agrees ≡ false
-          not_agreed false z = z
-          not_agreed true z = absurd (true≢false (sym (w.agrees z).0 ∙ e))
+  matches-is standing all is b e =
+      let good = (lent_passed r (length j) free).1 in
+      let exact = state_exact standing r.state in
+      alike_is r size good (moves r.state.applied j) (accepted-within r.state.applied r.kept j (start (config_of r)) (kept_range r good).0 all) standing is b
+      (λ z. exact.0 (sym e ∙ z)) (λ z. e ∙ exact.1 z) ∙
+      sym (rw all)
+
+  pub unmatched : accepted (start (config_of r)) (moves r.kept j) ≡ false → matches r j ≡ false
+  unfolding matches replays decode
+  unmatched e = rw e
 
 -- the farther step
 pub farther-standing : (r : Session) (k : ℕ) → k ≤ r.state.applied → r.state.applied ≡ farther r k

@@ -18,14 +18,15 @@ use Rattle.reference.specs.Lists.{choose}
 use Rattle.reference.specs.Touch.{nothing, touched, last_touch}
 use Rattle.reference.specs.Session.{moves}
 use Rattle.reference.proofs.Moves.{last_snoc, accepted-last}
-use Rattle.touch.specs.declared.Made.{Made}
 use Rattle.touch.specs.Association.{touch_record}
-use Rattle.touch.specs.Model.Made.{made_of}
+use Rattle.touch.specs.declared.Touch.{Touch}
+use Rattle.touch.specs.Model.Made.{touch_of}
+use Rattle.touch.proofs.Agrees.{touch-shows}
+use Rattle.shown.proofs.Reached.{reached-allowed}
 use Rattle.session.specs.Contract.{config_of, standing, test_refusal, goto_refusal, went, last_touched}
 use Rattle.session.proofs.Answers.{lent_passed, test_passed}
 use Rattle.session.proofs.Found.{kept_range}
 use Rattle.session.proofs.Holding.{Agree, goto_passed, goto-agrees}
-use Rattle.session.proofs.Reached.{touched-reached}
 use Rattle.session.proofs.Replayed.{move_at, moves_more}
 
 module _ (r : Session) (j : List ℕ) where
@@ -79,10 +80,12 @@ module _ (r : Session) (j : List ℕ) where
     unfolding went
     state-is = s-is ∙ rw (eq-eqb (goto_refusal r j n) 0 e)
 
-    pub last_some : (m : Made) → m ≡ made_of s (get_or j (3 * n) 0) (get_or j (3 * n + 1) 0) (get_or j (3 * n + 2) 0) → m.touch ≡ last_touched r j
+    pub last_some : (w : Touch) → w ≡ touch_record (touch_of s (get_or j (3 * n) 0) (get_or j (3 * n + 1) 0) (get_or j (3 * n + 2) 0)) → w ≡ last_touched r j
     unfolding last_touched touched
-    last_some m m-is =
-        ap (λ (x : Made). x.touch)
-        (m-is ∙ ap (λ (x : Record). made_of x a.processor a.action a.operand) state-is ∙ touched-reached c (moves n j) t.config legal.0 a) ∙
+    last_some w w-is =
+        w-is ∙
+        ap touch_record
+        (ap (λ (x : Record). touch_of x a.processor a.action a.operand) state-is ∙
+        touch-shows (run (start c) (moves n j)) (reached-allowed c t.config (moves n j) legal.0) a legal.1) ∙
         rw (eq-eqb (cause (run (start c) (moves n j)) a) 0 legal.1, eq-eqb (test_refusal r j) 0 tested)
         (ap touch_record (sym (ap (last_touch (start c)) all-is ∙ last_snoc (moves n j) (start c) a)))

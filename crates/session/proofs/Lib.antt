@@ -7,7 +7,7 @@ pub mod Counted
 pub mod Found
 pub mod Went
 pub mod Testing
-pub mod Pictures
+pub mod Equal
 pub mod Shown
 pub mod Holding
 pub mod LastTouch

@@ -7,8 +7,7 @@ use mathlib.Core.Path.{◌≡◌, refl, ap, ◌∙◌}
 use lib.Dec.{eqb}
 use borrow.Author.Tests.{eqb-true}
 use Rattle.state.specs.Association.{encode}
-use Rattle.step.specs.declared.Moved.{Moved}
-use Rattle.step.specs.Model.Moves.{moved_of}
+use Rattle.step.specs.Model.Moves.{Moved, moved_of}
 use Rattle.reference.specs.Refusal.{bad_record, refuse}
 use Rattle.reference.specs.Lists.{choose}
 use Rattle.reference.specs.State.{State}
@@ -21,9 +20,8 @@ use Rattle.reference.proofs.Laws.{good}
 use Rattle.reference.proofs.Break.{never_breaks}
 use Rattle.shown.proofs.Reached.{reached-allowed}
 use Rattle.agreement.proofs.Moved.{taken_if, moved-shows}
-use Rattle.touch.specs.declared.Made.{Made}
 use Rattle.touch.specs.Association.{touch_record}
-use Rattle.touch.specs.Model.Made.{touch_of, made_of}
+use Rattle.touch.specs.Model.Made.{Made, touch_of, made_of}
 use Rattle.touch.proofs.Agrees.{touch-shows}
 use Rattle.session.specs.Contract.{or_later}
 

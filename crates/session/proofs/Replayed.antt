@@ -13,8 +13,7 @@ use Rattle.state.specs.declared.State.{State as Record}
 use Rattle.state.specs.Association.{encode}
 use Rattle.state.specs.Model.Access.{start_record}
 use Rattle.state.proofs.Started.{start-shown}
-use Rattle.step.specs.declared.Moved.{Moved}
-use Rattle.step.specs.Model.Moves.{moved_of, run_of, counted_of}
+use Rattle.step.specs.Model.Moves.{Moved, moved_of, run_of, counted_of}
 use Rattle.step.proofs.InPlace.{Ends, run_ends}
 use Rattle.reference.specs.Start.{Config, config_cause, start}
 use Rattle.reference.proofs.Moves.{run_snoc, accepted_snoc}

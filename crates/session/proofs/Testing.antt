@@ -7,7 +7,6 @@ use mathlib.Core.Path.{◌≡◌, refl, sym, ap, ◌∙◌}
 use native.Mathlib.Nat.{le_refl}
 use native.Mathlib.Omega.{arith}
 use lib.ListN.{length, replicate}
-use Rattle.session.specs.declared.Tested.{Tested}
 use Rattle.state.specs.declared.Session.{Session}
 use Rattle.state.specs.Association.{decode}
 use Rattle.reference.specs.Refusal.{refuse}
@@ -16,7 +15,7 @@ use Rattle.reference.specs.Start.{start}
 use Rattle.reference.specs.Cause.{accepted}
 use Rattle.reference.specs.Session.{moves, replays}
 use Rattle.reference.proofs.Tests.{both_left}
-use Rattle.session.specs.Contract.{config_of, lent_refusal, standing, matches, test_refusal, progress_in, tested}
+use Rattle.session.specs.Contract.{Tested, config_of, lent_refusal, standing, matches, test_refusal, progress_in, tested}
 use Rattle.session.specs.Model.Replay.{counted_to, counted_in, farther}
 use Rattle.state.proofs.Branch.{if_some}
 use Rattle.session.proofs.Answers.{or_first, lent_passed, test_passed}

@@ -1,10 +1,11 @@
 -- What start, the journal's test, move, going, the last move's words and the journal's front answer, on all inputs: the equations that their contracts state.
 -- Assumes nothing.
-use Rattle.std.specs.Prelude.{ℕ, suc, ◌+◌, ◌*◌, Bool, not, List, [], ◌∷◌, ◌++◌, eqb, ltb, length, take, drop, replicate}
-use Rattle.session.specs.declared.Answer.{Answer}
-use Rattle.session.specs.declared.MoveAnswer.{MoveAnswer}
-use Rattle.session.specs.declared.Tested.{Tested}
+use Rattle.std.specs.Prelude.{ℕ, suc, ◌+◌, ◌*◌, Bool, not, List, [], ◌∷◌, ◌++◌, eqb, ltb, length, take, drop, replicate, Result, Ok, Err}
+use Rattle.std.specs.Borrow.{Bor}
+use Rattle.session.specs.declared.Moved.{Moved}
 use Rattle.state.specs.declared.Session.{Session}
+use Rattle.state.specs.declared.refusal.Refusal.{Refusal}
+use Rattle.state.specs.Refusal.{number}
 use Rattle.state.specs.Record.{zero_session}
 use Rattle.state.specs.Association.{decode, session_record}
 use Rattle.state.specs.Rules.{session_ok}
@@ -31,6 +32,16 @@ config_of r = record { P = r.state.p; T = r.state.t; M = r.state.m; B = r.initia
 -- a start table from its numbers
 abbrev pub table : ℕ → ℕ → ℕ → ℕ → ℕ → Config
 table p t m b stealing = record { P = p; T = t; M = m; B = b; stealing = stealing }
+
+-- what a start, a going or a class answers: the number that refuses it, or 0, and the session's record
+pub record Answer : Type 0 where
+  pub refusal : ℕ
+  pub session : Session
+
+-- what the code's answer means, where a record stands for a refusal
+unfoldable pub answer_of : Session → Result Session Refusal → Answer
+answer_of other (Ok made) = record { refusal = 0; session = made }
+answer_of other (Err refusal) = record { refusal = number refusal; session = other }
 
 -- accepted, a call gives the record that it makes; refused, the one that stands for it
 abbrev pub answered : ℕ → Session → Session → Answer
@@ -66,6 +77,15 @@ test_refusal r j = or_later (lent_refusal r (length j)) (refuse (not (matches r 
 abbrev pub progress_in : Session → List ℕ → ℕ → ℕ
 progress_in r j = progress (start (config_of r)) (standing r j)
 
+-- what the test of a journal finds: the number that refuses it, or 0; and how many calls each thread has made by it
+pub record Tested : Type 0 where
+  pub refusal : ℕ
+  pub calls : List ℕ
+
+unfoldable pub tested_of : Result (List ℕ) Refusal → Tested
+tested_of (Ok calls) = record { refusal = 0; calls = calls }
+tested_of (Err refusal) = record { refusal = number refusal; calls = replicate 33 0 }
+
 unfoldable pub tested : Session → List ℕ → Tested
 tested r j =
     record { refusal = test_refusal r j; calls = if_zero (test_refusal r j) (tabulate (progress_in r j) 0 33) (replicate 33 0) }
@@ -74,6 +94,17 @@ tested r j =
 
 unfoldable pub move_refusal : Session → List ℕ → Move → ℕ
 move_refusal r j a = or_later (test_refusal r j) (or_later (cause (shown r) a) (refuse (step_breaks (shown r) a) bad_record 0))
+
+-- what a move or a turn answers: the number that refuses it, or 0, the session's record, and the words that it touched
+pub record MoveAnswer : Type 0 where
+  pub refusal : ℕ
+  pub session : Session
+  pub touch : code.Touch
+
+-- what the code's answer means, where a record stands for a refusal, which touches nothing
+unfoldable pub move_answer_of : Session → Result Moved Refusal → MoveAnswer
+move_answer_of other (Ok made) = record { refusal = 0; session = made.session; touch = made.touch }
+move_answer_of other (Err refusal) = record { refusal = number refusal; session = other; touch = touch_record nothing }
 
 -- accepted, a move gives the record that it makes and the words that it touches; refused, the one that stands for it and none
 abbrev pub move_answered : ℕ → Session → Session → Touch → MoveAnswer
@@ -108,6 +139,11 @@ unfoldable pub last_touched : Session → List ℕ → code.Touch
 last_touched r j = touch_record (choose (eqb (test_refusal r j) 0) (last_touch (start (config_of r)) (standing r j)) nothing)
 
 -- ---- the journal's front: 10, 15; refused, its empty front
+
+-- what the code's answer means
+unfoldable pub front_of : Result (Bor (List ℕ)) Refusal → List ℕ
+front_of (Ok bytes) = bytes.now
+front_of (Err refusal) = []
 
 unfoldable pub front : Session → List ℕ → List ℕ
 front r j = choose (eqb (lent_refusal r (length j)) 0) (take (3 * (shown r).applied) j) []

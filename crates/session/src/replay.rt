@@ -1,94 +1,54 @@
 // Replaying a session's journal from the start table read off its record: one replay, which going and the journal's test share.
-ghost use Rattle.std.specs.Prelude.{◌≡◌, ◌≤◌, ◌*◌, length, true};
-ghost use Rattle.state.specs.Rules.{state_ok};
+ghost use Rattle.std.specs.Prelude.{◌≡◌, ◌≤◌, ◌*◌, length};
 ghost use Rattle.step.specs.Model.Moves.{run_of, counted_of};
 ghost use Rattle.session.specs.Contract.{lent_refusal};
-ghost use Rattle.session.specs.Model.Replay.{between, farther, counted_to, Reaches, Compares, Replays};
+ghost use Rattle.session.specs.Model.Replay.{between, farther, counted_to, all_made, Reaches, Replays};
 
-use crate::same::same_state;
 use state::{Session, State};
-use step::Run;
 use step::moves::run;
 
-// The moves of a journal from step a to step b, made from a state; where there are none, nothing is done.
-fn part(state: State, journal: &[u8], a: usize, b: usize, calls: &mut [u16]) -> Run
+// The state that the moves of a journal from step a to step b lead to from another, if all are accepted; where there are none, nothing is done.
+fn part(state: State, journal: &[u8], a: usize, b: usize, calls: &mut [u16]) -> Option<State>
     requires { (a ≤ b) × (3 * b ≤ length journal.now) }
-    ensures run { result ≡ run_of state (between a b journal.now) }
+    ensures run { result ≡ all_made (run_of state (between a b journal.now)) }
     ensures calls { calls.new ≡ counted_of state (between a b journal.now) calls.old }
 {
     if a == b {
-        return Run {
-            refusal: 0,
-            made: 0,
-            state,
-        };
+        return Some(state);
     }
-    run(state, &journal[3 * a..3 * b], calls)
+    let run = run(state, &journal[3 * a..3 * b], calls);
+    match run.outcome {
+        Ok(()) => Some(run.state),
+        Err(_) => None,
+    }
 }
 
-// Whether all kept moves are accepted, and then the states after the first a and the first b of them.
+// The states after the first a and the first b of the kept moves.
 #[derive(Clone, Copy)]
 pub(crate) struct Stages {
-    pub whole: bool,
     pub low: State,
     pub high: State,
 }
 
-// The first a of the journal's kept moves, those up to b, then the others; each thread's calls among the first b, up to the first that is refused, are counted.
-fn reached(session: Session, journal: &[u8], a: usize, b: usize, calls: &mut [u16]) -> Stages
+// The first a of the journal's kept moves, those up to b, then the others, if all are accepted; each thread's calls among the first b, up to the first that is
+// refused, are counted.
+fn reached(session: Session, journal: &[u8], a: usize, b: usize, calls: &mut [u16]) -> Option<Stages>
     requires { (lent_refusal session (length journal.now) ≡ 0) × (a ≤ b) × (b ≤ session.kept) }
     ensures states { Reaches session journal.now a b result }
     ensures calls { calls.new ≡ counted_to session b journal.now calls.old }
 {
     let state = session.state;
     let first = State::start(state.p, state.t, state.m, session.initial, state.stealing);
-    let front = part(first, journal, 0, a, calls);
-    let low = front.state;
-    if front.refusal == 0 {
-        let middle = part(low, journal, a, b, calls);
-        if middle.refusal == 0 {
-            let high = middle.state;
-            let mut none = [0u16; 1];
-            let rest = part(high, journal, b, session.kept as usize, &mut none);
-            let whole = rest.refusal == 0;
-            return Stages { whole, low, high };
-        }
-    }
-    Stages {
-        whole: false,
-        low,
-        high: low,
-    }
+    let low = part(first, journal, 0, a, calls)?;
+    let high = part(low, journal, a, b, calls)?;
+    let mut none = [0u16; 1];
+    part(high, journal, b, session.kept as usize, &mut none)?;
+    Some(Stages { low, high })
 }
 
-// Whether the kept moves are accepted and the standing ones give the record, and the state after the first k.
-#[derive(Clone, Copy)]
-pub(crate) struct Found {
-    pub agrees: bool,
-    pub state: State,
-}
-
-// What a replay finds: whether all kept moves are accepted, and then whether the state after the standing ones is the record's; and the state that is asked for.
-fn compared(whole: bool, standing: State, given: State, asked: State) -> Found
-    requires { (whole ≡ true → state_ok standing ≡ true) × (state_ok given ≡ true) }
-    ensures { Compares whole standing given asked result }
-{
-    if whole {
-        let agrees = same_state(standing, given);
-        return Found {
-            agrees,
-            state: asked,
-        };
-    }
-    Found {
-        agrees: false,
-        state: asked,
-    }
-}
-
-// Replays the kept moves, with the state after the first k: those up to the nearer of k and the standing ones, to the farther, and the others. Each thread's calls
-// up to the farther are counted.
-pub(crate) fn replayed(session: Session, journal: &[u8], k: usize, calls: &mut [u16]) -> Found
+// Replays the kept moves, those up to the nearer of k and the standing ones, to the farther, and the others: the state after the first k, if all are accepted and
+// the standing ones give the record. Each thread's calls up to the farther are counted.
+pub(crate) fn replayed(session: Session, journal: &[u8], k: usize, calls: &mut [u16]) -> Option<State>
     requires { (lent_refusal session (length journal.now) ≡ 0) × (k ≤ session.kept) }
     ensures state { Replays session journal.now k result }
     ensures calls { calls.new ≡ counted_to session (farther session k) journal.now calls.old }
@@ -96,9 +56,9 @@ pub(crate) fn replayed(session: Session, journal: &[u8], k: usize, calls: &mut [
     let given = session.state;
     let n = given.applied as usize;
     if k <= n {
-        let found = reached(session, journal, k, n, calls);
-        return compared(found.whole, found.high, given, found.low);
+        let found = reached(session, journal, k, n, calls)?;
+        return if found.high == given { Some(found.low) } else { None };
     }
-    let found = reached(session, journal, n, k, calls);
-    compared(found.whole, found.low, given, found.high)
+    let found = reached(session, journal, n, k, calls)?;
+    if found.low == given { Some(found.high) } else { None }
 }

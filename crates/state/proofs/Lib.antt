@@ -3,10 +3,12 @@ pub mod Branch
 pub mod Begun
 pub mod Numbers
 pub mod Past
+pub mod Refused
 pub mod Joining
 pub mod Fill
 pub mod Sized
 pub mod Table
 pub mod Started
 pub mod Bytes
-mod Tables
+pub mod Refusals
+pub mod Tables

@@ -22,11 +22,8 @@ use Rattle.state.specs.Model.Access.{bytes_of, with_applied}
 use Rattle.state.proofs.Bytes.{taken-bytes, bytes-status, bytes-length}
 use Rattle.step.specs.declared.View.{View}
 use Rattle.step.specs.declared.Effect.{Effect}
-use Rattle.step.specs.declared.Decision.{Decision}
-use Rattle.step.specs.declared.Moved.{Moved}
-use Rattle.step.specs.declared.Run.{Run}
 use Rattle.step.specs.declared.Sizes.{Sizes}
-use Rattle.step.specs.Model.Moves.{target_of, index_of, view_of, seen_of, carried, carried_firsts, carried_threads, act_effect, up_to, gathered_of, owns_none, facts_of, move_view, cause_of, cause_seen, tried, step_breaks_of, refusal_of, stepped_of, moved_of, moved_at, sizes_of, act_outcome, refusal_seen, decision, ran, run_from, run_of, noted, noted_at, counted_from, counted_of}
+use Rattle.step.specs.Model.Moves.{Run, Moved, Decision, target_of, index_of, view_of, seen_of, carried, carried_firsts, carried_threads, act_effect, up_to, gathered_of, owns_none, facts_of, move_view, cause_of, cause_seen, tried, step_breaks_of, refusal_of, stepped_of, moved_of, moved_at, sizes_of, act_outcome, refusal_seen, decision, ran, run_from, run_of, noted, noted_at, counted_from, counted_of}
 use Rattle.step.proofs.Keeps.{keeps}
 use Rattle.step.proofs.Put.{carried_first, carried-bytes, length-firsts, length-threads}
 
@@ -68,16 +65,16 @@ cleared free n = choose (eqb n 21 && free) 0 n
 abbrev before_21 : Bool → Bool → Bool → Bool → Bool → Bool → Bool → ℕ → ℕ
 before_21 q r t u w x y later = refuse q 2 (refuse r 3 (refuse t 8 (refuse u 4 (refuse w 5 (refuse x 6 (refuse y 7 later))))))
 
--- none of them is there, or one that is not 21, whatever comes after
+-- none of them is there, or one that is neither 21 nor 0, whatever comes after
 one_before : (q r t u w x y : Bool) →
-    ((l : ℕ) → before_21 q r t u w x y l ≡ l) ⊎ ((n : ℕ) × (eqb n 21 ≡ false) × ((l : ℕ) → before_21 q r t u w x y l ≡ n))
-one_before true r t u w x y = inr (2, refl, λ l. refl)
-one_before false true t u w x y = inr (3, refl, λ l. refl)
-one_before false false true u w x y = inr (8, refl, λ l. refl)
-one_before false false false true w x y = inr (4, refl, λ l. refl)
-one_before false false false false true x y = inr (5, refl, λ l. refl)
-one_before false false false false false true y = inr (6, refl, λ l. refl)
-one_before false false false false false false true = inr (7, refl, λ l. refl)
+    ((l : ℕ) → before_21 q r t u w x y l ≡ l) ⊎ ((n : ℕ) × ((eqb n 21 ≡ false) × (eqb n 0 ≡ false)) × ((l : ℕ) → before_21 q r t u w x y l ≡ n))
+one_before true r t u w x y = inr (2, (refl, refl), λ l. refl)
+one_before false true t u w x y = inr (3, (refl, refl), λ l. refl)
+one_before false false true u w x y = inr (8, (refl, refl), λ l. refl)
+one_before false false false true w x y = inr (4, (refl, refl), λ l. refl)
+one_before false false false false true x y = inr (5, (refl, refl), λ l. refl)
+one_before false false false false false true y = inr (6, (refl, refl), λ l. refl)
+one_before false false false false false false true = inr (7, (refl, refl), λ l. refl)
 one_before false false false false false false false = inl (λ l. refl)
 
 module _ (z : Sizes) (v : View) (status a o : ℕ) where
@@ -89,7 +86,8 @@ module _ (z : Sizes) (v : View) (status a o : ℕ) where
   left owning = refuse (eqb a 5 && owning) 21 0
 
   abbrev Cases : Type 0
-  Cases = ((owning : Bool) → cause-by owning ≡ left owning) ⊎ ((n : ℕ) × (eqb n 21 ≡ false) × ((owning : Bool) → cause-by owning ≡ n))
+  Cases =
+      ((owning : Bool) → cause-by owning ≡ left owning) ⊎ ((n : ℕ) × ((eqb n 21 ≡ false) × (eqb n 0 ≡ false)) × ((owning : Bool) → cause-by owning ≡ n))
 
   which : Cases
   unfolding cause_seen
@@ -99,6 +97,44 @@ module _ (z : Sizes) (v : View) (status a o : ℕ) where
       (one_before (not f.there) (not f.fits) f.full (not f.goes && not f.at_app) (f.goes && f.at_app) (f.unlocks && not f.owner)
       (f.creates && not f.is_new))
       [ inl h ↦ inl (λ w. h (left w)) | inr h ↦ inr (h.0, h.1, λ w. h.2 (left w)) ]
+
+  left-free : left false ≡ 0
+  left-free = by (eqb a 5)
+    where
+      by : (b : Bool) → ◌≡◌ {A = ℕ} (refuse (b && false) 21 0) 0
+      by true = refl
+      by false = refl
+
+  left-owner : left true ≡ choose (eqb a 5) 21 0
+  left-owner = by (eqb a 5)
+    where
+      by : (b : Bool) → ◌≡◌ {A = ℕ} (refuse (b && true) 21 0) (choose b 21 0)
+      by true = refl
+      by false = refl
+
+  -- a cause that is there whether or not the thread owns a mutex
+  pub same-cause : eqb (cause-by false) 0 ≡ false → cause-by true ≡ cause-by false
+  same-cause e = by which
+    where
+      by : Cases → cause-by true ≡ cause-by false
+      by (inl h) = absurd (eqb-false _ 0 e (h false ∙ left-free))
+      by (inr h) = h.2 true ∙ sym (h.2 false)
+
+  -- without one, an exit is left with the question
+  pub owner-cause : cause-by false ≡ 0 → cause-by true ≡ choose (eqb a 5) 21 0
+  owner-cause e = by which
+    where
+      by : Cases → cause-by true ≡ choose (eqb a 5) 21 0
+      by (inl h) = h true ∙ left-owner
+      by (inr h) = absurd (eqb-false h.0 0 h.1.1 (sym (h.2 false) ∙ e))
+
+  -- and 21 is not the cause of a thread that owns none
+  pub unasked : eqb (cause-by false) 21 ≡ false
+  unasked = by which
+    where
+      by : Cases → eqb (cause-by false) 21 ≡ false
+      by (inl h) = ap (λ (n : ℕ). eqb n 21) (h false ∙ left-free)
+      by (inr h) = ap (λ (n : ℕ). eqb n 21) (h.2 false) ∙ h.1.0
 
   -- 21 is the cause of an exit only
   exit-only : cause-by true ≡ 21 → a ≡ 5
@@ -110,7 +146,7 @@ module _ (z : Sizes) (v : View) (status a o : ℕ) where
 
       by : Cases → a ≡ 5
       by (inl h) = five (eqb a 5) refl (sym (h true) ∙ e)
-      by (inr h) = absurd (true≢false (sym (eq-eqb h.0 21 (sym (h.2 true) ∙ e)) ∙ h.1))
+      by (inr h) = absurd (true≢false (sym (eq-eqb h.0 21 (sym (h.2 true) ∙ e)) ∙ h.1.0))
 
   -- the cause of a thread that may be free of mutexes, by that of one that owns some
   cause_cleared : (free : Bool) → cleared free (cause-by true) ≡ cause-by (not free)
@@ -123,7 +159,7 @@ module _ (z : Sizes) (v : View) (status a o : ℕ) where
 
       by : Cases → cleared free (cause-by true) ≡ cause-by (not free)
       by (inl h) = ap (cleared free) (h true) ∙ left_cleared (eqb a 5) free ∙ sym (h (not free))
-      by (inr h) = ap (cleared free) (h.2 true) ∙ ap (λ (b : Bool). choose (b && free) 0 h.0) h.1 ∙ sym (h.2 (not free))
+      by (inr h) = ap (cleared free) (h.2 true) ∙ ap (λ (b : Bool). choose (b && free) 0 h.0) h.1.0 ∙ sym (h.2 (not free))
 
 -- an exit breaks no rule
 exit-unbroken : (t a o : ℕ) (v : View) → a ≡ 5 → (act_outcome t a o v).broken ≡ false
@@ -151,10 +187,20 @@ cleared_tried free n z = by (eqb n 21) refl z
     by true e h = or-true (eqb n 0)
     by false e h = rw (eq-eqb n 0 h)
 
--- the question whether the thread is free of mutexes, and what comes of it
-pub asked : (own : Bool) (n r : ℕ) (free : Bool) → free ≡ eqb n 21 && own → ((free ≡ true) × (r ≡ 0)) ⊎ ((free ≡ false) × (r ≡ n)) → r ≡ cleared own n
-asked own n r free e (inl h) = h.1 ∙ sym (ap (λ (b : Bool). choose b 0 n) (sym e ∙ h.0))
-asked own n r free e (inr h) = h.1 ∙ sym (ap (λ (b : Bool). choose b 0 n) (sym e ∙ h.0))
+-- what is not 21 stands
+pub stands : (free : Bool) (n : ℕ) → eqb n 21 ≡ false → n ≡ cleared free n
+stands free n e = sym (ap (λ (b : Bool). choose (b && free) 0 n) e)
+
+-- the question of an exit whether its thread is free of mutexes: it is not, or all is well
+pub owner_stays : (free : Bool) (a : ℕ) → a ≡ 5 → free ≡ false → 21 ≡ cleared free (choose (eqb a 5) 21 0)
+owner_stays free a e f = rw (e, f)
+
+pub goes_free : (free : Bool) (a : ℕ) → (a ≡ 5 → free ≡ true) → 0 ≡ cleared free (choose (eqb a 5) 21 0)
+goes_free free a h = by (eqb a 5) (λ e. h (eqb-true a 5 e))
+  where
+    by : (b : Bool) → (b ≡ true → free ≡ true) → ◌≡◌ {A = ℕ} 0 (cleared free (choose b 21 0))
+    by true k = rw (k refl)
+    by false k = refl
 
 -- the refusal of its decision, once it is asked whether the thread is free of mutexes
 decided : (s : State) (p a o : ℕ) →

@@ -11,9 +11,7 @@ use lib.Seq.{get_or-drop, get_or-take}
 use borrow.Author.Tests.{eqb-false}
 use Rattle.reference.specs.Lists.{choose}
 use Rattle.state.specs.declared.State.{State}
-use Rattle.step.specs.declared.Moved.{Moved}
-use Rattle.step.specs.declared.Run.{Run}
-use Rattle.step.specs.Model.Moves.{moved_of, moved_at, ran, run_from, run_of, noted_at, counted_from, counted_of}
+use Rattle.step.specs.Model.Moves.{Run, Moved, moved_of, moved_at, ran, run_from, run_of, noted_at, counted_from, counted_of}
 
 -- two runs end alike: the same refusal, the same state, the same counts
 pub record Alike (x y : Run) (c d : List ℕ) : Type 0 where

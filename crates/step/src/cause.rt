@@ -1,7 +1,9 @@
-// Why a move is refused before it is tried, by what it sees: the first of 2, 3, 8, 4 or 5, 6 or 7 or 21 that is there, else 0.
+// Why a move is refused before it is tried, by what it sees: the first of the causes 2, 3, 8, 4 or 5, 6 or 7 that is there.
+// Here the thread owns no mutex: 21, the cause of an exit by one that does, is for `run` to ask.
 ghost use Rattle.std.specs.Prelude.{◌≡◌, ◌*◌, get_or, true, false, ◌&&◌, ◌||◌, not, eqb, ltb};
 ghost use Rattle.reference.specs.Refusal.{not_new, refuse};
 ghost use Rattle.reference.specs.Cause.{first_cause};
+ghost use Rattle.state.specs.Refusal.{outcome};
 ghost use Rattle.step.specs.Model.Moves.{operand_fits, facts_of, cause_seen, owns_none};
 
 use crate::{Sizes, View};
@@ -30,31 +32,32 @@ pub(crate) fn sizes(p: u8, t: u8, m: u8, applied: u16) -> Sizes
 }
 
 // A go of a processor that is there: its operand is 0, and at App there is no line.
-pub(crate) fn go_refusal(z: Sizes, v: View, operand: u8) -> u8
-    ensures { result ≡ first_cause (facts_of true true z v true 0 0 operand) }
+#[tactic(auto, unfolding(state::specs::Refusal::outcome, state::specs::Refusal::number))]
+pub(crate) fn go_refusal(z: Sizes, v: View, operand: u8) -> Result<(), Refusal>
+    ensures { outcome result ≡ first_cause (facts_of true true z v true 0 0 operand) }
 {
     let r = v.proc;
     if operand != 0 {
-        return Refusal::BAD_OPERAND;
+        return Err(Refusal::BadOperand);
     }
     if 4000 <= z.applied {
-        return Refusal::FULL;
+        return Err(Refusal::Full);
     }
     if r.position == Position::APP {
-        return Refusal::GO_AT_APP;
+        return Err(Refusal::GoAtApp);
     }
-    0
+    Ok(())
 }
 
 // A create is of a new thread, whose status is 0. Only a create reads a status.
-pub(crate) fn create_refusal(threads: &[u8], action: u8, operand: u8) -> u8
-    ensures { result ≡ refuse (eqb action 6 && not (eqb (get_or threads.now (3 * operand) 0) 0)) not_new 0 }
+#[tactic(auto, unfolding(state::specs::Refusal::outcome, state::specs::Refusal::number))]
+pub(crate) fn create_refusal(threads: &[u8], action: u8, operand: u8) -> Result<(), Refusal>
+    ensures { outcome result ≡ refuse (eqb action 6 && not (eqb (get_or threads.now (3 * operand) 0) 0)) not_new 0 }
 {
-    if action != 6 {
-        return 0;
+    if (action == 6) && (status_in(threads, operand) != 0) {
+        return Err(Refusal::NotNew);
     }
-    let status = status_in(threads, operand);
-    if status != 0 { Refusal::NOT_NEW } else { 0 }
+    Ok(())
 }
 
 // Mutex i, which is x, is none of the m that are there, or thread k does not own it.
@@ -78,38 +81,48 @@ pub(crate) fn owns_none(mutexes: [Mutex; 9], m: u8, k: u8) -> bool
         & unowned(mutexes[8], 8, m, k)
 }
 
-// A call of a processor that is there: it is made at App only, unlock by the owner, exit not by a thread that owns a mutex, as this one may.
-pub(crate) fn call_refusal(threads: &[u8], z: Sizes, v: View, action: u8, operand: u8) -> u8
-    ensures { result ≡ first_cause (facts_of true false z v true (get_or threads.now (3 * operand) 0) action operand) }
+// A call of a processor that is there: it is made at App only, and unlock by the owner.
+#[tactic(auto, unfolding(state::specs::Refusal::outcome, state::specs::Refusal::number))]
+pub(crate) fn call_refusal(
+    threads: &[u8],
+    z: Sizes,
+    v: View,
+    action: u8,
+    operand: u8,
+) -> Result<(), Refusal>
+    ensures { outcome result ≡ first_cause (facts_of true false z v false (get_or threads.now (3 * operand) 0) action operand) }
 {
     let r = v.proc;
     let x = v.mutex;
     let fits = operand_fits(z, action, operand);
     if !((action <= 6) & fits) {
-        return Refusal::BAD_OPERAND;
+        return Err(Refusal::BadOperand);
     }
     if 4000 <= z.applied {
-        return Refusal::FULL;
+        return Err(Refusal::Full);
     }
     if r.position != Position::APP {
-        return Refusal::CALL_AWAY;
+        return Err(Refusal::CallAway);
     }
     if (action == 3) & (x.owner != r.current) {
-        return Refusal::NOT_OWNER;
-    }
-    if action == 5 {
-        return Refusal::STILL_OWNER;
+        return Err(Refusal::NotOwner);
     }
     create_refusal(threads, action, operand)
 }
 
-// As if the thread owned a mutex. The threads are bytes, and the operand names one of them.
-pub(crate) fn cause(threads: &[u8], z: Sizes, v: View, action: u8, operand: u8) -> u8
-    ensures { result ≡ cause_seen z v true (get_or threads.now (3 * operand) 0) action operand }
+// The threads are bytes, and the operand names one of them.
+#[tactic(auto, unfolding(state::specs::Refusal::outcome, state::specs::Refusal::number, crate::specs::Model::Moves::cause_seen))]
+pub(crate) fn cause(
+    threads: &[u8],
+    z: Sizes,
+    v: View,
+    action: u8,
+    operand: u8,
+) -> Result<(), Refusal>
+    ensures { outcome result ≡ cause_seen z v false (get_or threads.now (3 * operand) 0) action operand }
 {
-    let there = in_range(1, z.p, v.number);
-    if !there {
-        return Refusal::NO_PROCESSOR;
+    if !in_range(1, z.p, v.number) {
+        return Err(Refusal::NoProcessor);
     }
     if action == 0 {
         return go_refusal(z, v, operand);

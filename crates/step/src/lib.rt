@@ -13,7 +13,8 @@ pub mod registers;
 pub mod trylock;
 pub mod unlock;
 
-use state::queues::Taken;
+use state::queues::Front;
+use state::refusal::Refusal;
 use state::{Mutex, Processor, State};
 
 // What a processor sees: its number, its registers, its mutex, what taking from that mutex's queue and from the ready queue that it works on finds,
@@ -23,8 +24,8 @@ pub struct View {
     pub number: u8,
     pub proc: Processor,
     pub mutex: Mutex,
-    pub queue: Taken,
-    pub ready: Taken,
+    pub queue: Option<Front>,
+    pub ready: Option<Front>,
     pub index: u8,
     pub queues: u8,
 }
@@ -55,11 +56,9 @@ pub struct Outcome {
     pub effect: Effect,
 }
 
-// A move's decision: why it is refused, or 0; whether it may change its mutex; and its effect, which leaves the view where the move is refused.
-// 21 is the answer to an exit that is refused only if its thread owns a mutex, and comes with its effect.
+// What a move that is not refused makes: whether it may change its mutex, and its effect.
 #[derive(Clone, Copy)]
 pub struct Decision {
-    pub refusal: u8,
     pub writes: bool,
     pub effect: Effect,
 }
@@ -85,17 +84,10 @@ pub struct Sizes {
     pub applied: u16,
 }
 
-// Where a list of moves leads: why its first refused move is refused, or 0, how many moves were made, and the state after them.
+// Where a list of moves leads: why a move is refused, if one is, how many moves were made before that, and the state after them.
 #[derive(Clone, Copy)]
 pub struct Run {
-    pub refusal: u8,
+    pub outcome: Result<(), Refusal>,
     pub made: usize,
-    pub state: State,
-}
-
-// A move's answer: 0, or why it is refused, and the state after it.
-#[derive(Clone, Copy)]
-pub struct Moved {
-    pub refusal: u8,
     pub state: State,
 }

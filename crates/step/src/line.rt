@@ -5,15 +5,12 @@ ghost use Rattle.step.specs.Model.Moves.{nothing_there, outcome, line_outcome, a
 use crate::registers::stays;
 use crate::{Effect, Outcome, View, call, lock, ready, trylock, unlock};
 use state::Position;
-use state::queues::Taken;
+use state::queues::Front;
 
-fn is_empty(queue: Taken) -> bool
+fn is_empty(queue: Option<Front>) -> bool
     ensures { result ≡ nothing_there queue }
 {
-    match queue {
-        Taken::Nothing => true,
-        Taken::Thread(_, _) => false,
-    }
+    queue.is_none()
 }
 
 // No rule can be broken, and the mutex stays.

@@ -2,14 +2,16 @@
 ghost use Rattle.std.specs.Prelude.{◌≡◌};
 ghost use Rattle.reference.specs.Lists.{tabulate};
 ghost use Rattle.state.specs.Model.Access.{thread_from};
-ghost use Rattle.step.specs.Model.Moves.{target_of, probed, on_ring, index_of, seen_of, carried_firsts, carried_threads, gathered_of, ran, run_of, counted_of, moved_of};
+ghost use Rattle.state.specs.Refusal as refusals;
+ghost use Rattle.step.specs.Model.Moves.{target_of, probed, on_ring, index_of, seen_of, carried_firsts, carried_threads, gathered_of, ran, run_shown, run_of, counted_of, moved_shown, moved_of};
 
 use crate::calls::note_move;
 use crate::cause::{owns_none, sizes};
 use crate::deciding::decide;
 use crate::registers::{by_fields, mutex_by_fields, up_wide};
-use crate::{Moved, Run, Status, Transfer, View};
-use state::queues::{bytes_of, join, put, put_thread, ready_queues, take, threads_of};
+use crate::{Run, Status, Transfer, View};
+use state::access::{at, put};
+use state::queues::{bytes_of, join, put_thread, ready_queues, take, threads_of};
 use state::range::in_range;
 use state::refusal::Refusal;
 use state::{Chains, Mutex, Position, Processor, State, Thread};
@@ -120,85 +122,84 @@ pub(crate) fn carry(firsts: &mut [u8], threads: &mut [u8], p: u8, transfer: Tran
 
 // The run's end: the record has all its parts again.
 fn ended(
-    refusal: u8,
+    outcome: Result<(), Refusal>,
     made: usize,
-    mut s: State,
+    s: State,
     firsts: [u8; 17],
     bytes: &[u8],
     processors: [Processor; 9],
     mutexes: [Mutex; 9],
 ) -> Run
-    ensures { result ≡ ran refusal made (gathered_of s firsts (tabulate (thread_from bytes.now) 0 33) processors mutexes s.applied) }
+    ensures { run_shown result ≡ ran (refusals.outcome outcome) made (gathered_of s firsts (tabulate (thread_from bytes.now) 0 33) processors mutexes s.applied) }
 {
     let threads = threads_of(bytes);
-    let chains = Chains { firsts, threads };
-    s.chains = chains;
-    s.processors = processors;
-    s.mutexes = mutexes;
     Run {
-        refusal,
+        outcome,
         made,
-        state: s,
+        state: State {
+            chains: Chains { firsts, threads },
+            processors,
+            mutexes,
+            ..s
+        },
     }
 }
 
 // Makes moves, three bytes each, in order on one record that is changed in place, until one is refused. Bytes left over are no move.
 // The calls among the moves made are counted for each thread. Who needs no counts lends a list of one: no thread has the number 0.
 pub fn run(mut s: State, moves: &[u8], calls: &mut [u16]) -> Run
-    ensures state { result ≡ run_of s moves.now }
+    ensures state { run_shown result ≡ run_of s moves.now }
     ensures calls { calls.new ≡ counted_of s moves.now calls.old }
 {
-    let chains = s.chains;
-    let mut firsts = chains.firsts;
-    let mut bytes = bytes_of(chains.threads);
+    let mut firsts = s.chains.firsts;
+    let mut bytes = bytes_of(s.chains.threads);
     let mut processors = s.processors;
     let mut mutexes = s.mutexes;
-    let nobody = Processor::zero();
-    let free = Mutex::zero();
-    let mut made: usize = 0;
-    while made < moves.len() / 3 {
-        let at = 3 * made;
-        let p = moves[at];
-        let action = moves[at + 1];
-        let operand = moves[at + 2];
-        let i = p as usize;
-        let r = by_fields(if i < 9 { processors[i] } else { nobody });
+    let n = moves.len() / 3;
+    for made in 0..n {
+        let p = moves[3 * made];
+        let action = moves[3 * made + 1];
+        let operand = moves[3 * made + 2];
+        let r = by_fields(at(&processors, p as usize));
         let m = target(action, r.mutex, operand);
-        let j = m as usize;
-        let x = mutex_by_fields(if j < 9 { mutexes[j] } else { free });
+        let x = mutex_by_fields(at(&mutexes, m as usize));
         let v = look(&firsts, &bytes, s.stealing, s.p, p, r, m, x);
         let z = sizes(s.p, s.t, s.m, s.applied);
-        let done = decide(&bytes, z, v, action, operand);
-        let cleared = done.refusal == Refusal::STILL_OWNER && owns_none(mutexes, s.m, r.current);
-        let refusal = if cleared { 0 } else { done.refusal };
-        if refusal != 0 {
-            return ended(refusal, made, s, firsts, &bytes, processors, mutexes);
+        let done = match decide(&bytes, z, v, action, operand) {
+            Ok(done) => done,
+            Err(refusal) => {
+                return ended(Err(refusal), made, s, firsts, &bytes, processors, mutexes);
+            }
+        };
+        if action == 5 && !owns_none(mutexes, s.m, r.current) {
+            return ended(
+                Err(Refusal::StillOwner),
+                made,
+                s,
+                firsts,
+                &bytes,
+                processors,
+                mutexes,
+            );
         }
         note_move(calls, action, r.current);
         let e = done.effect;
         carry(&mut firsts, &mut bytes, p, e.transfer);
-        if done.writes && j < 9 {
-            mutexes[j] = mutex_by_fields(e.mutex);
+        if done.writes {
+            put(&mut mutexes, m as usize, mutex_by_fields(e.mutex));
         }
-        if i < 9 {
-            processors[i] = by_fields(e.proc);
-        }
+        put(&mut processors, p as usize, by_fields(e.proc));
         s.applied = up_wide(s.applied);
-        made += 1;
     }
-    ended(0, made, s, firsts, &bytes, processors, mutexes)
+    ended(Ok(()), n, s, firsts, &bytes, processors, mutexes)
 }
 
-// One move: refused, the state stays.
-pub fn moved(s: State, p: u8, action: u8, operand: u8) -> Moved
-    ensures { result ≡ moved_of s p action operand }
+// One move.
+pub fn moved(s: State, p: u8, action: u8, operand: u8) -> Result<State, Refusal>
+    ensures { moved_shown s result ≡ moved_of s p action operand }
 {
-    let bytes = [p, action, operand];
     let mut none = [0u16; 1];
-    let done = run(s, &bytes, &mut none);
-    let state = done.state;
-    Moved {
-        refusal: done.refusal,
-        state,
-    }
+    let done = run(s, &[p, action, operand], &mut none);
+    done.outcome?;
+    Ok(done.state)
 }

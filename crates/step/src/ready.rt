@@ -5,7 +5,7 @@ ghost use Rattle.step.specs.Model.Moves.{at_CI2, at_CI3, at_Y1, at_Y2, at_Y3, at
 use crate::registers::{away, join_ready, load, next_probe, stays};
 use crate::{Effect, Status, Transfer, View};
 use state::Position;
-use state::queues::Taken;
+use state::queues::Front;
 
 // CI2: an idle processor takes a ready thread and probes from 0 again; from an empty queue the probe moves on to the next.
 pub(crate) fn ci2(v: View) -> Effect
@@ -14,7 +14,7 @@ pub(crate) fn ci2(v: View) -> Effect
     let mut r = v.proc;
     let x = v.mutex;
     let ready = v.ready;
-    let Taken::Thread(k, rest) = ready else {
+    let Some(Front { thread: k, rest }) = ready else {
         let n = next_probe(v.queues, r.probe);
         r.probe = n;
         return stays(away(r, Position::CI2), x);
@@ -43,8 +43,8 @@ pub(crate) fn y1(v: View) -> Effect
     let x = v.mutex;
     let ready = v.ready;
     match ready {
-        Taken::Nothing => stays(away(r, Position::APP), x),
-        Taken::Thread(_, _) => stays(away(r, Position::Y2), x),
+        None => stays(away(r, Position::APP), x),
+        Some(_) => stays(away(r, Position::Y2), x),
     }
 }
 

@@ -9,9 +9,8 @@ use native.Mathlib.Omega.{arith}
 use lib.Dec.{eqb}
 use borrow.Author.Tests.{eqb-true, ne_eqb}
 use Rattle.touch.specs.declared.Sight.{Sight}
-use Rattle.touch.specs.declared.Made.{Made}
 use Rattle.touch.specs.Association.{word_shown, touch_shown, word_record, touch_record}
-use Rattle.touch.specs.Model.Made.{ready_number, sight_of, some_queue, view_shown, act_seen, touch_of, made_of}
+use Rattle.touch.specs.Model.Made.{Made, ready_number, sight_of, some_queue, view_shown, act_seen, touch_of, made_of}
 use Rattle.state.specs.declared.State as declared
 use Rattle.state.specs.Record.{Sized}
 use Rattle.state.specs.Association.{encode, decode, queue_at}
@@ -20,8 +19,7 @@ use Rattle.state.specs.Allowed.{Allowed}
 use Rattle.state.proofs.Branch.{if_none, if_some}
 use Rattle.state.proofs.Numbers.{queue-mutex}
 use Rattle.step.specs.declared.View as code
-use Rattle.step.specs.declared.Moved.{Moved}
-use Rattle.step.specs.Model.Moves.{nothing_there, view_of}
+use Rattle.step.specs.Model.Moves.{Moved, nothing_there, view_of}
 use Rattle.reference.specs.Lists.{choose, if_empty}
 use Rattle.reference.specs.State.{State, Processor, Line, App, CI2, CI3, L1, L3, L4, L6, L7, L8, L9, L10, TL1, GT1, GT3, TL3, U1, H2, H3, H5, H6, H8, Y1, Y2, Y3, C2, processor_at, mutex_at}
 use Rattle.reference.specs.State as reference

@@ -3,21 +3,20 @@
 
 mod words;
 
-ghost use Rattle.std.specs.Prelude.{◌≡◌, eqb};
+ghost use Rattle.std.specs.Prelude.{◌≡◌};
 ghost use Rattle.state.specs.Record.{processor_of};
 ghost use Rattle.step.specs.Model.Moves.{view_of};
 ghost use Rattle.touch.specs.Association.{touch_record, touch_shown, word_shown};
-ghost use Rattle.reference.specs.Lists.{choose};
-ghost use Rattle.reference.specs.Touch.{nothing, kind, number, same_word, touches_word, apart};
-ghost use Rattle.touch.specs.Model.Made.{sight_of, touch_of, made_of};
+ghost use Rattle.reference.specs.Touch.{nothing, kind, number, touches_word, apart};
+ghost use Rattle.touch.specs.Model.Made.{sight_of, touch_of, made_shown, made_of};
 
-use state::access::mutex_at;
-use state::chain::first_at;
+use state::access::at;
+use state::refusal::Refusal;
 use state::{Mutex, Processor, State};
 use step::moves::{index_of, moved};
 
 // A shared word: the count, the token or the queue of a mutex, a ready queue (the single one is 1), the birth of a thread, or none. The owner is no word.
-#[derive(Clone, Copy)]
+#[derive(Clone, Copy, Debug, PartialEq, Eq)]
 pub enum Word {
     None,
     Count(u8),
@@ -28,16 +27,15 @@ pub enum Word {
 }
 
 // The word that a move read and the one that it wrote.
-#[derive(Clone, Copy)]
+#[derive(Clone, Copy, Debug, PartialEq, Eq)]
 pub struct Touch {
     pub reads: Word,
     pub writes: Word,
 }
 
-// A move's answer: 0, or why it is refused; the state after it; and what it touched.
-#[derive(Clone, Copy)]
+// A move that is not refused: the state after it, and what it touched.
+#[derive(Clone, Copy, Debug, PartialEq, Eq)]
 pub struct Made {
-    pub refusal: u8,
     pub state: State,
     pub touch: Touch,
 }
@@ -83,35 +81,19 @@ impl Word {
     }
 }
 
-pub fn same_word(v: Word, w: Word) -> bool
-    ensures { result ≡ same_word (word_shown v) (word_shown w) }
-{
-    let kind = v.kind();
-    let number = v.number();
-    (kind == w.kind()) & (number == w.number())
-}
-
 // The word is read or written; none is no word.
 fn touches_word(t: Touch, w: Word) -> bool
     ensures { result ≡ touches_word (touch_shown t) (word_shown w) }
 {
-    let reads = t.reads;
-    let writes = t.writes;
-    let none = same_word(w, Word::None);
-    let read = same_word(reads, w);
-    let written = same_word(writes, w);
-    !none & (read | written)
+    w != Word::None && (t.reads == w || t.writes == w)
 }
 
 // Neither writes a word that the other touches.
+#[tactic(auto, unfolding(reference::specs::Touch::apart))]
 pub fn apart(t: Touch, u: Touch) -> bool
     ensures { result ≡ apart (touch_shown t) (touch_shown u) }
 {
-    let first = t.writes;
-    let second = u.writes;
-    let meets = touches_word(u, first);
-    let met = touches_word(t, second);
-    !meets & !met
+    !touches_word(u, t.writes) && !touches_word(t, u.writes)
 }
 
 // What a processor sees of the shared words: its number, its registers, its mutex, whether a thread is in that mutex's queue and in the ready queue that it works
@@ -131,45 +113,29 @@ fn seen(s: State, p: u8) -> Sight
     ensures { result ≡ sight_of (view_of s p (processor_of s p).mutex) }
 {
     let r = s.processor(p);
-    let mutexes = s.mutexes;
-    let x = mutex_at(mutexes, r.mutex);
-    let chains = s.chains;
-    let firsts = chains.firsts;
     let index = index_of(s.stealing, s.p, p, r);
-    let waiting = first_at(firsts, r.mutex) != 0;
-    let ready = first_at(firsts, index) != 0;
     Sight {
         number: p,
         proc: r,
-        mutex: x,
-        waiting,
-        ready,
+        mutex: at(&s.mutexes, r.mutex as usize),
+        waiting: at(&s.chains.firsts, r.mutex as usize) != 0,
+        ready: at(&s.chains.firsts, index as usize) != 0,
         index,
     }
 }
 
-// What a move that has been made from s touched: nothing where a number refused it.
-pub fn touched(refusal: u8, s: State, p: u8, action: u8, operand: u8) -> Touch
-    ensures { result ≡ touch_record (choose (eqb refusal 0) (touch_of s p action operand) nothing) }
+// What a move made from s touches.
+pub fn touched(s: State, p: u8, action: u8, operand: u8) -> Touch
+    ensures { result ≡ touch_record (touch_of s p action operand) }
 {
-    if refusal != 0 {
-        return Touch::nothing();
-    }
-    let v = seen(s, p);
-    words::act(v, action, operand)
+    words::act(seen(s, p), action, operand)
 }
 
-// One move: refused, the state stays and nothing is touched.
-pub fn make(s: State, p: u8, action: u8, operand: u8) -> Made
-    ensures { result ≡ made_of s p action operand }
+// One move. Refused, nothing is touched.
+pub fn make(s: State, p: u8, action: u8, operand: u8) -> Result<Made, Refusal>
+    ensures { made_shown s result ≡ made_of s p action operand }
 {
-    let done = moved(s, p, action, operand);
-    let refusal = done.refusal;
-    let state = done.state;
-    let touch = touched(refusal, s, p, action, operand);
-    Made {
-        refusal,
-        state,
-        touch,
-    }
+    let state = moved(s, p, action, operand)?;
+    let touch = touched(s, p, action, operand);
+    Ok(Made { state, touch })
 }

@@ -7,7 +7,6 @@ ghost use Rattle.touch.specs.Model.Made.{touching, ready_number, line_seen, act_
 
 use crate::{Sight, Touch, Word};
 use state::{Position, Token};
-use step::registers::same;
 
 // The word is read, and written where the test holds.
 fn touching(test: bool, w: Word) -> Touch
@@ -54,22 +53,18 @@ fn ready_number(index: u8) -> u8
 fn claims(v: Sight) -> Touch
     ensures { result ≡ touching (same_tokens v.mutex.token v.proc.observed) (case.Token v.proc.mutex) }
 {
-    let r = v.proc;
-    let x = v.mutex;
-    touching(same(x.token, r.observed), Word::Token(r.mutex))
+    touching(v.mutex.token == v.proc.observed, Word::Token(v.proc.mutex))
 }
 
 // The token is cleared where it is the one that this processor made.
 fn takes_back(v: Sight) -> Touch
     ensures { result ≡ touching (same_tokens v.mutex.token (token v.number v.proc.sequence)) (case.Token v.proc.mutex) }
 {
-    let r = v.proc;
-    let x = v.mutex;
     let own = Token {
         processor: v.number,
-        sequence: r.sequence,
+        sequence: v.proc.sequence,
     };
-    touching(same(x.token, own), Word::Token(r.mutex))
+    touching(v.mutex.token == own, Word::Token(v.proc.mutex))
 }
 
 // The line at which the processor stands.
@@ -115,11 +110,7 @@ pub(crate) fn act(v: Sight, action: u8, operand: u8) -> Touch
     ensures { result ≡ touch_record (act_seen action operand v) }
 {
     match action {
-        1 => Touch::nothing(),
-        2 => Touch::nothing(),
-        3 => Touch::nothing(),
-        4 => Touch::nothing(),
-        5 => Touch::nothing(),
+        1..=5 => Touch::nothing(),
         6 => changes(Word::Birth(operand)),
         _ => line(v),
     }

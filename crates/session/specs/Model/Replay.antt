@@ -1,13 +1,12 @@
 -- What storing a move, replaying a session's journal and going on from a record make, as the inner functions' contracts state it.
 -- Assumes nothing.
-use Rattle.std.specs.Prelude.{ℕ, ◌+◌, ◌-◌, ◌*◌, Bool, true, List, ◌≡◌, eqb, leb, take, drop, set}
-use Rattle.session.specs.declared.replay.Found.{Found}
+use Rattle.std.specs.Prelude.{ℕ, ◌+◌, ◌-◌, ◌*◌, true, false, List, ◌≡◌, eqb, leb, take, drop, set, Option, Some, None}
 use Rattle.session.specs.declared.replay.Stages.{Stages}
 use Rattle.state.specs.declared.Session.{Session}
 use Rattle.state.specs.declared.State.{State}
 use Rattle.state.specs.Association.{encode}
 use Rattle.state.specs.Model.Access.{start_record}
-use Rattle.step.specs.Model.Moves.{counted_of}
+use Rattle.step.specs.Model.Moves.{Run, counted_of}
 use Rattle.reference.specs.Lists.{choose}
 use Rattle.reference.specs.Start.{start}
 use Rattle.reference.specs.Step.{Move, run}
@@ -42,19 +41,18 @@ counted_in r j calls = counted_to r r.state.applied j calls
 abbrev pub farther : Session → ℕ → ℕ
 farther r k = choose (leb k r.state.applied) r.state.applied k
 
--- whether all kept moves are accepted, and then the records of the states after the first a and the first b
-pub record Reaches (r : Session) (j : List ℕ) (a b : ℕ) (x : Stages) : Type 0 where
-  pub whole : x.whole ≡ accepted (start (config_of r)) (moves r.kept j)
-  pub low : x.whole ≡ true → x.low ≡ encode (run (start (config_of r)) (moves a j))
-  pub high : x.whole ≡ true → x.high ≡ encode (run (start (config_of r)) (moves b j))
+-- the state that a run leads to, if all its moves are accepted
+abbrev pub all_made : Run → Option State
+all_made r = choose (eqb r.refusal 0) (Some r.state) None
 
--- whether all was accepted and two states are the same, and the state that is asked for
-pub record Compares (whole : Bool) (standing given asked : State) (x : Found) : Type 0 where
-  pub agrees : x.agrees ≡ true → (whole ≡ true) × (standing ≡ given)
-  pub same : whole ≡ true → standing ≡ given → x.agrees ≡ true
-  pub state : x.state ≡ asked
+-- the records of the states after the first a and the first b of the kept moves, if all are accepted
+unfoldable pub Reaches : Session → List ℕ → ℕ → ℕ → Option Stages → Type 0
+Reaches r j a b (Some x) =
+    (accepted (start (config_of r)) (moves r.kept j) ≡ true) × (x.low ≡ encode (run (start (config_of r)) (moves a j))) ×
+    (x.high ≡ encode (run (start (config_of r)) (moves b j)))
+Reaches r j a b None = accepted (start (config_of r)) (moves r.kept j) ≡ false
 
-pub record Replays (r : Session) (j : List ℕ) (k : ℕ) (x : Found) : Type 0 where
-  -- whether the kept moves are accepted and the standing ones give the record, and then the record of the state after the first k
-  pub agrees : x.agrees ≡ matches r j
-  pub state : x.agrees ≡ true → x.state ≡ encode (run (start (config_of r)) (moves k j))
+-- the record of the state after the first k moves, if the kept ones are accepted and the standing ones give the record
+unfoldable pub Replays : Session → List ℕ → ℕ → Option State → Type 0
+Replays r j k (Some s) = (matches r j ≡ true) × (s ≡ encode (run (start (config_of r)) (moves k j)))
+Replays r j k None = matches r j ≡ false

@@ -1,6 +1,6 @@
 -- What the code computes on its own records: lines, calls, causes, a move, a run of moves. Theorems relate it to the reference machine.
 -- Assumes nothing.
-use Rattle.std.specs.Prelude.{ℕ, zero, suc, ◌+◌, ◌-◌, ◌*◌, ◌/◌, Bool, true, false, ◌&&◌, ◌||◌, not, Option, Some, None, List, [], ◌∷◌, eqb, leb, ltb, length, get_or, set}
+use Rattle.std.specs.Prelude.{ℕ, zero, suc, ◌+◌, ◌-◌, ◌*◌, ◌/◌, Bool, true, false, ◌&&◌, ◌||◌, not, Option, Some, None, List, [], ◌∷◌, Result, Ok, Err, eqb, leb, ltb, length, get_or, set}
 use Rattle.state.specs.declared.Token.{Token}
 use Rattle.state.specs.declared.Processor.{Processor}
 use Rattle.state.specs.declared.Mutex.{Mutex}
@@ -8,6 +8,8 @@ use Rattle.state.specs.declared.Thread as thread
 use Rattle.state.specs.declared.Chains.{Chains}
 use Rattle.state.specs.declared.State.{State}
 use Rattle.state.specs.declared.queues.Front.{Front}
+use Rattle.state.specs.declared.refusal.Refusal.{Refusal}
+use Rattle.state.specs.Refusal as refusals
 use Rattle.state.specs.Record.{zero_token, mutex_in, processor_of, mutex_of, thread_of}
 use Rattle.state.specs.Model.Access.{taken_in, with_thread, joined_firsts, joined_threads, taken, removed, joined, placed, with_processor, with_mutex, with_chains, with_applied}
 use Rattle.reference.specs.Refusal.{bad_record, still_owner}
@@ -17,10 +19,9 @@ use Rattle.reference.specs.Cause.{Facts, first_cause}
 use Rattle.step.specs.declared.View.{View}
 use Rattle.step.specs.declared.Effect.{Effect}
 use Rattle.step.specs.declared.Outcome.{Outcome}
-use Rattle.step.specs.declared.Decision.{Decision}
-use Rattle.step.specs.declared.Moved.{Moved}
+use Rattle.step.specs.declared.Decision as code-decision
 use Rattle.step.specs.declared.Sizes.{Sizes}
-use Rattle.step.specs.declared.Run.{Run}
+use Rattle.step.specs.declared.Run as code-run
 use Rattle.step.specs.declared.Transfer.{Transfer}
 use Rattle.step.specs.declared.Transfer.TheVariants.{Stay, Take, Join, Mark}
 
@@ -331,6 +332,12 @@ refusal_seen z v status a o =
     let n = cause_seen z v true status a o in
     choose (tried n) (choose (act_outcome z.t a o v).broken bad_record n) n
 
+-- why a move is refused, or 0; whether it may change its mutex; and its effect. 21 is that of an exit that is refused only if its thread owns a mutex.
+pub record Decision : Type 0 where
+  pub refusal : ℕ
+  pub writes : Bool
+  pub effect : Effect
+
 -- refused, the view is left
 unfoldable pub decision : Sizes → View → ℕ → ℕ → ℕ → Decision
 decision z v status a o =
@@ -340,6 +347,11 @@ decision z v status a o =
       writes = made && (act_outcome z.t a o v).writes;
       effect = choose made (act_outcome z.t a o v).effect (stay v);
     }
+
+-- the decision that the code's answer to action a says: an exit is not asked there whether its thread owns a mutex
+unfoldable pub decided : View → ℕ → Result code-decision.Decision Refusal → Decision
+decided v a (Ok d) = record { refusal = choose (eqb a 5) still_owner 0; writes = d.writes; effect = d.effect }
+decided v a (Err e) = record { refusal = refusals.number e; writes = false; effect = stay v }
 
 -- ---- a whole move
 
@@ -389,8 +401,18 @@ stepped_of s p a o = put_effect s p (target_of a (processor_of s p).mutex o) (ac
 unfoldable pub refusal_of : State → ℕ → ℕ → ℕ → ℕ
 refusal_of s p a o = choose (eqb (cause_of s p a o) 0) (choose (step_breaks_of s p a) bad_record 0) (cause_of s p a o)
 
+-- a move's answer: 0, or why it is refused, and the state after it
+pub record Moved : Type 0 where
+  pub refusal : ℕ
+  pub state : State
+
 unfoldable pub moved_of : State → ℕ → ℕ → ℕ → Moved
 moved_of s p a o = record { refusal = refusal_of s p a o; state = choose (eqb (refusal_of s p a o) 0) (stepped_of s p a o) s }
+
+-- the answer that the code's says: refused, the state stays
+unfoldable pub moved_shown : State → Result State Refusal → Moved
+moved_shown s (Ok after) = record { refusal = 0; state = after }
+moved_shown s (Err e) = record { refusal = refusals.number e; state = s }
 
 -- ---- moves one after another, in place
 
@@ -433,8 +455,17 @@ gathered_of s firsts threads processors mutexes n =
       mutexes = mutexes;
     }
 
+-- where a list of moves leads: why its first refused move is refused, or 0, how many moves were made, and the state after them
+pub record Run : Type 0 where
+  pub refusal : ℕ
+  pub made : ℕ
+  pub state : State
+
 abbrev pub ran : ℕ → ℕ → State → Run
 ran refusal made s = record { refusal = refusal; made = made; state = s }
+
+abbrev pub run_shown : code-run.Run → Run
+run_shown r = ran (refusals.outcome r.outcome) r.made r.state
 
 -- move i + 1 of a list of bytes
 abbrev pub moved_at : State → List ℕ → ℕ → Moved

@@ -23,16 +23,14 @@ none_there c q = by (eqb (get_or c.firsts q 0) 0) _ _
 
 pub returns : goal.returns
 returns c =
-    let m = c in
-    let r = m in
-    let a = r.args in
+    let r = c.processor-r in
     let i = c.index_of-index in
     rw (
-      c.first_at-ready.ensures,
-      c.first_at-waiting.ensures,
-      none_there a.s.chains i.result,
-      none_there a.s.chains r.processor-r.result.mutex,
+      c.at.ensures,
+      c.at-2.ensures,
+      c.at-3.ensures,
+      none_there c.args.s.chains i.result,
+      none_there c.args.s.chains r.result.mutex,
       i.ensures,
-      m.mutex_at-x.ensures,
-      r.processor-r.ensures,
+      r.ensures,
     )

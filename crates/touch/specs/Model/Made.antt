@@ -1,13 +1,15 @@
 -- What the code computes on its own records: the words that a move touches, and a move with its words.
 -- Assumes nothing.
-use Rattle.std.specs.Prelude.{ℕ, ◌-◌, Bool, not, List, [], ◌∷◌, eqb}
+use Rattle.std.specs.Prelude.{ℕ, ◌-◌, Bool, not, List, [], ◌∷◌, Result, Ok, Err, eqb}
 use Rattle.touch.specs.declared.Word as code
 use Rattle.touch.specs.declared.Word.TheVariants as case
 use Rattle.touch.specs.declared.Touch as pair
 use Rattle.touch.specs.declared.Sight.{Sight}
-use Rattle.touch.specs.declared.Made.{Made}
+use Rattle.touch.specs.declared.Made as code-made
 use Rattle.touch.specs.Association.{touch_record}
 use Rattle.state.specs.declared.State.{State}
+use Rattle.state.specs.declared.refusal.Refusal.{Refusal}
+use Rattle.state.specs.Refusal as refusals
 use Rattle.state.specs.Record.{processor_of}
 use Rattle.state.specs.Association.{token_shown, processor_shown}
 use Rattle.step.specs.declared.View as seen
@@ -63,8 +65,19 @@ act_seen a o v = act_touch (action_of a) o v.proc.mutex (ready_number v.index) (
 abbrev pub touch_of : State → ℕ → ℕ → ℕ → Touch
 touch_of s p a o = act_seen a o (sight_of (view_of s p (processor_of s p).mutex))
 
+-- a move's answer: 0, or why it is refused; the state after it; and what it touched
+pub record Made : Type 0 where
+  pub refusal : ℕ
+  pub state : State
+  pub touch : pair.Touch
+
 -- a move with its words; refused, it has none
 unfoldable pub made_of : State → ℕ → ℕ → ℕ → Made
 made_of s p a o =
     let n = (moved_of s p a o).refusal in
     record { refusal = n; state = (moved_of s p a o).state; touch = touch_record (choose (eqb n 0) (touch_of s p a o) nothing) }
+
+-- the answer that the code's says: refused, the state stays
+unfoldable pub made_shown : State → Result code-made.Made Refusal → Made
+made_shown s (Ok made) = record { refusal = 0; state = made.state; touch = made.touch }
+made_shown s (Err e) = record { refusal = refusals.number e; state = s; touch = touch_record nothing }

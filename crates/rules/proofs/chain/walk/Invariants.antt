@@ -1,15 +1,13 @@
 -- `rules::chain::walk` meets its contract: the bits are the threads met so far, and what is left to walk gives the whole walk.
 -- Assumes nothing.
-use Prim.Native.Nat.{ℕ}
+use Prim.Native.Nat.{ℕ, ◌-◌}
 use mathlib.Core.List.{List}
+use lib.ListN.{get_or}
 use mathlib.Core.Path.{◌≡◌}
 use Rattle.rules.specs.Walk.{Bits, along}
-use Rattle.rules.specs.Model.Bytes.{thread_in_bytes}
+use Rattle.state.specs.Record.{thread_in}
 use Rattle.rules.proofs.chain.walk.Given as goal
 
-abbrev pub invariant-loop-left : goal.invariant-loop-left
-invariant-loop-left now =
-    (l : List ℕ) → Bits now.before l → (m : List ℕ) × Bits now.met m × (along (thread_in_bytes now.threads) now.q now.left now.at m ≡ along (thread_in_bytes now.threads) now.q now.most now.first l)
-
-abbrev pub decreases-loop-left : goal.decreases-loop-left
-decreases-loop-left l = l.left
+abbrev pub invariant-loop : goal.invariant-loop
+invariant-loop now =
+    (l : List ℕ) → Bits now.before l → (m : List ℕ) × Bits now.met m × (along (thread_in now.c.threads) now.q (now.most - now.counter) now.k m ≡ along (thread_in now.c.threads) now.q now.most (get_or now.c.firsts now.q 0) l)

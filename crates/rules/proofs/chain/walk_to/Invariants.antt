@@ -1,17 +1,14 @@
 -- `rules::chain::walk_to` meets its contract: after q turns, the walk of all queues before q.
 -- Assumes nothing.
-use Prim.Native.Nat.{ℕ, ◌≤◌, ◌-◌}
+use Prim.Native.Nat.{ℕ}
 use mathlib.Core.Bool.{false}
 use mathlib.Core.Path.{◌≡◌}
 use lib.ListN.{get_or}
 use Rattle.rules.specs.Walk.{Bits, ended, walk_before}
-use Rattle.rules.specs.Model.Bytes.{thread_in_bytes}
+use Rattle.state.specs.Record.{thread_in}
 use Rattle.rules.proofs.chain.walk_to.Given as goal
 
 abbrev pub invariant-loop-q : goal.invariant-loop-q
 invariant-loop-q l =
-    let w = walk_before (thread_in_bytes l.threads) (λ (j : ℕ). get_or l.firsts j 0) l.q in
-    (l.q ≤ l.last) × (ended w ≡ false) × Bits l.met w.met
-
-abbrev pub decreases-loop-q : goal.decreases-loop-q
-decreases-loop-q l = l.last - l.q
+    let w = walk_before (thread_in l.c.threads) (λ (j : ℕ). get_or l.c.firsts j 0) l.q in
+    (ended w ≡ false) × Bits l.met w.met

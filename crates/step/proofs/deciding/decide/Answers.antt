@@ -1,45 +1,71 @@
 -- `step::deciding::decide` meets its contract.
 -- Assumes nothing.
 use Prim.Native.Nat.{ℕ}
-use mathlib.Core.Bool.{Bool, true, false, ◌&&◌, ◌||◌, not, true≢false}
-use mathlib.Core.Path.{◌≡◌, refl, sym}
+use mathlib.Core.Bool.{Bool, true, false}
+use mathlib.Core.Path.{◌≡◌, refl, sym, ap, ◌∙◌}
 use lib.Dec.{eqb}
-use Rattle.step.specs.Model.Moves.{tried, refusal_seen, decision}
+use Rattle.std.proofs.Common.{Ok, Err}
+use Rattle.std.proofs.lemmas.Result.{err_from_is_err_and}
+use Rattle.reference.specs.Lists.{choose}
+use Rattle.state.specs.declared.refusal.Refusal.{Refusal}
+use Rattle.state.specs.declared.refusal.Refusal.TheVariants.{BadRecord}
+use Rattle.state.specs.Refusal.{number, outcome}
+use Rattle.state.proofs.Refused.{numbered}
+use Rattle.step.specs.declared.View.{View}
+use Rattle.step.specs.declared.Sizes.{Sizes}
+use Rattle.step.specs.declared.Outcome.{Outcome}
+use Rattle.step.specs.Model.Moves.{cause_seen, tried, act_outcome, refusal_seen, decision, decided}
+use Rattle.step.proofs.InPlace.{same-cause, owner-cause, unasked}
 use Rattle.step.proofs.deciding.decide.Goals as goal
 
--- what is neither 0 nor 21 is not tried, and all else is
-untried : (n : ℕ) → not (eqb n 0) && not (eqb n 21) ≡ true → tried n ≡ false
-untried n = by (eqb n 0) (eqb n 21)
-  where
-    by : (a b : Bool) → not a && not b ≡ true → a || b ≡ false
-    by true b h = absurd (true≢false (sym h))
-    by false true h = absurd (true≢false (sym h))
-    by false false h = refl
+tried_left : (b : Bool) → tried (choose b 21 0) ≡ true
+tried_left true = refl
+tried_left false = refl
 
-is_tried : (n : ℕ) → not (eqb n 0) && not (eqb n 21) ≡ false → tried n ≡ true
-is_tried n = by (eqb n 0) (eqb n 21)
-  where
-    by : (a b : Bool) → not a && not b ≡ false → a || b ≡ true
-    by true b h = refl
-    by false true h = refl
-    by false false h = absurd (true≢false h)
+module _ (z : Sizes) (v : View) (status a o : ℕ) where
+  abbrev seen : ℕ
+  seen = cause_seen z v false status a o
 
-pub returns-then-first : goal.returns-then-first
-unfolding refusal_seen decision
-returns-then-first c =
-    let cause = c in
-    rw (← cause.cause-first.ensures, untried cause.cause-first.result c.if-first.true, untried cause.cause-first.result c.if-first.true) c.refused.ensures
+  not_21 : (e : Refusal) → number e ≡ seen → eqb (number e) 21 ≡ false
+  not_21 e k = ap (λ (n : ℕ). eqb n 21) k ∙ unasked z v status a o
+
+  refused : (e : Refusal) → number e ≡ seen → decided v a (Err e) ≡ decision z v status a o
+  unfolding decided decision refusal_seen
+  refused e k =
+      rw (same-cause z v status a o (ap (λ (n : ℕ). eqb n 0) (sym k) ∙ numbered e), sym k, numbered e, not_21 e k, numbered e, not_21 e k)
+
+  module _ (d : Outcome) (d-is : d ≡ act_outcome z.t a o v) (none : 0 ≡ seen) where
+    breaks : d.broken ≡ true → decided v a (Err BadRecord) ≡ decision z v status a o
+    unfolding decided decision refusal_seen number
+    breaks e = rw (owner-cause z v status a o (sym none), tried_left (eqb a 5), ← d-is, e)
+
+    makes : d.broken ≡ false → decided v a (Ok (record { writes = d.writes; effect = d.effect })) ≡ decision z v status a o
+    unfolding decided decision refusal_seen
+    makes e = rw (owner-cause z v status a o (sym none), tried_left (eqb a 5), ← d-is, e, tried_left (eqb a 5))
+
+pub returns-in_err-cause : goal.returns-in_err-cause
+unfolding outcome
+returns-in_err-cause c =
+    let p = err_from_is_err_and c.from_residual.result c.from_residual.ensures.1 in
+    let a = c.args in
+    let k = c.in_err-cause.ensures in
+    rw (p.1, p.2)
+    (record {
+      decision = refused a.z a.v _ a.action a.operand c.in_err-cause.field-0.0 k;
+      unasked = not_21 a.z a.v _ a.action a.operand c.in_err-cause.field-0.0 k;
+    })
 
 pub returns-then-done : goal.returns-then-done
-unfolding refusal_seen decision
+unfolding outcome number
 returns-then-done c =
-    let act = c in
-    let cause = act in
-    rw (← cause.cause-first.ensures, is_tried cause.cause-first.result act.if-first.false, ← act.act-done.ensures, c.if-done.true) c.refused-then-done.ensures
+    let a = c.args in
+    record {
+      decision = breaks a.z a.v _ a.action a.operand c.act-done.result c.act-done.ensures c.in_ok-cause.ensures c.if-done.true;
+      unasked = refl;
+    }
 
 pub returns : goal.returns
-unfolding refusal_seen decision
+unfolding outcome
 returns c =
-    let act = c in
-    let cause = act in
-    rw (← cause.cause-first.ensures, is_tried cause.cause-first.result act.if-first.false, ← act.act-done.ensures, c.if-done.false, is_tried cause.cause-first.result act.if-first.false)
+    let a = c.args in
+    record { decision = makes a.z a.v _ a.action a.operand c.act-done.result c.act-done.ensures c.in_ok-cause.ensures c.if-done.false; unasked = refl }

@@ -14,4 +14,4 @@ returns-in_default c =
 
 pub returns : goal.returns
 unfolding at_L9
-returns c = rw (c.in-Thread.is, c.serve.ensures)
+returns c = rw (c.in-Some.is, c.serve.ensures)

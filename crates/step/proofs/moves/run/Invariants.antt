@@ -1,13 +1,7 @@
 -- `step::moves::run` meets its contract: the loop's invariant says that the parts are those of the record after the moves made.
 -- Assumes nothing.
-use Prim.Native.Nat.{◌≤◌, ◌-◌, ◌/◌}
-use lib.ListN.{length}
 use Rattle.step.proofs.InPlace.{Running}
 use Rattle.step.proofs.moves.run.Given as goal
 
 abbrev pub invariant-loop-made : goal.invariant-loop-made
-invariant-loop-made l =
-    (l.made ≤ length l.moves / 3) × Running l.initial.s l.moves l.initial.calls l.made l.s l.calls l.firsts l.bytes l.processors l.mutexes
-
-abbrev pub decreases-loop-made : goal.decreases-loop-made
-decreases-loop-made l = length l.moves / 3 - l.made
+invariant-loop-made l = Running l.initial.s l.moves l.initial.calls l.made l.s l.calls l.firsts l.bytes l.processors l.mutexes

@@ -15,4 +15,4 @@ returns-in_default c =
 
 pub returns : goal.returns
 unfolding at_CI2
-returns c = rw (c.in-Thread.is, c.away-2.ensures)
+returns c = rw (c.in-Some.is, c.away-2.ensures)

@@ -3,20 +3,20 @@
 use Rattle.step.specs.Model.Moves.{at_Y1}
 use Rattle.step.proofs.ready.y1.Goals as goal
 
-pub returns-in-Nothing : goal.returns-in-Nothing
+pub returns-in-None : goal.returns-in-None
 unfolding at_Y1
-returns-in-Nothing c =
+returns-in-None c =
     rw (
-      c.in-Nothing.is,
+      c.in-None.is,
       c.stays.ensures,
       c.away.ensures,
     )
 
-pub returns-in-Thread : goal.returns-in-Thread
+pub returns-in-Some : goal.returns-in-Some
 unfolding at_Y1
-returns-in-Thread c =
+returns-in-Some c =
     rw (
-      c.in-Thread.is,
-      c.stays-in-Thread.ensures,
-      c.away-in-Thread.ensures,
+      c.in-Some.is,
+      c.stays-in-Some.ensures,
+      c.away-in-Some.ensures,
     )

@@ -3,15 +3,15 @@
 use Rattle.step.specs.Model.Moves.{at_H2}
 use Rattle.step.proofs.unlock.h2.Goals as goal
 
-pub returns-in-Thread : goal.returns-in-Thread
+pub returns-in-Some : goal.returns-in-Some
 unfolding at_H2
-returns-in-Thread c = rw (c.in-Thread.is, c.serve.ensures)
+returns-in-Some c = rw (c.in-Some.is, c.serve.ensures)
 
-pub returns-in-Nothing : goal.returns-in-Nothing
+pub returns-in-None : goal.returns-in-None
 unfolding at_H2
-returns-in-Nothing c =
+returns-in-None c =
     rw (
-      c.in-Nothing.is,
+      c.in-None.is,
       c.stays.ensures,
       c.on_mutex.ensures,
     )

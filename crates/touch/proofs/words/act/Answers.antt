@@ -1,42 +1,47 @@
 -- `touch::words::act` meets its contract.
 -- Assumes nothing.
-use mathlib.Core.Path.{refl, ap, sym, ◌∙◌}
-use Rattle.reference.specs.Step.{Action, go, actions, action_of}
-use Rattle.reference.specs.Touch.{act_touch}
-use Rattle.step.proofs.Match.{rest}
+use Prim.Native.Nat.{ℕ, zero, suc, ◌≤◌}
+use mathlib.Core.Path.{◌≡◌, refl, ap, ◌∙◌}
+use native.Mathlib.Omega.{arith}
+use lib.ListN.{get_or-eq_default}
+use Rattle.reference.specs.Step.{go, actions, action_of}
+use Rattle.reference.specs.Touch.{nothing, act_touch}
+use Rattle.touch.specs.declared.Sight.{Sight}
 use Rattle.touch.specs.Association.{touch_record}
-use Rattle.touch.specs.Model.Made.{ready_number, view_shown, line_seen, act_seen}
+use Rattle.touch.specs.Model.Made.{line_seen, act_seen}
 use Rattle.touch.proofs.words.act.Goals as goal
+use Rattle.touch.proofs.words.act.Goals.{in_default-via-then-action-lt1, in_default-via-else-action-lt1+else-action-lt6}
 
-pub returns-in-1 : goal.returns-in-1
+-- a call that is no create touches nothing
+quiet : (a o : ℕ) (v : Sight) → 1 ≤ a → a ≤ 5 → nothing ≡ act_seen a o v
 unfolding act_seen act_touch action_of
-returns-in-1 c = rw c.in-1.is c.nothing.ensures
+quiet zero o v l h = absurd (omega arith)
+quiet (suc zero) o v l h = refl
+quiet (suc (suc zero)) o v l h = refl
+quiet (suc (suc (suc zero))) o v l h = refl
+quiet (suc (suc (suc (suc zero)))) o v l h = refl
+quiet (suc (suc (suc (suc (suc zero))))) o v l h = refl
+quiet (suc (suc (suc (suc (suc (suc a)))))) o v l h = absurd (omega arith)
 
-pub returns-in-2 : goal.returns-in-2
-unfolding act_seen act_touch action_of
-returns-in-2 c = rw c.in-2.is c.nothing-in-2.ensures
+-- a go, or an action that is none
+goes : (a o : ℕ) (v : Sight) → action_of a ≡ go → line_seen v ≡ act_seen a o v
+unfolding line_seen act_seen act_touch
+goes a o v e = rw e
 
-pub returns-in-3 : goal.returns-in-3
-unfolding act_seen act_touch action_of
-returns-in-3 c = rw c.in-3.is c.nothing-in-3.ensures
-
-pub returns-in-4 : goal.returns-in-4
-unfolding act_seen act_touch action_of
-returns-in-4 c = rw c.in-4.is c.nothing-in-4.ensures
-
-pub returns-in-5 : goal.returns-in-5
-unfolding act_seen act_touch action_of
-returns-in-5 c = rw c.in-5.is c.nothing-in-5.ensures
+pub returns-in-1-to-5 : goal.returns-in-1-to-5
+returns-in-1-to-5 c = c.nothing.ensures ∙ ap touch_record (quiet c.args.action c.args.operand c.args.v (omega arith) (omega arith))
 
 pub returns-in-6 : goal.returns-in-6
 unfolding act_seen act_touch action_of
 returns-in-6 c = rw c.in-6.is c.changes.ensures
 
--- go, or no action
 pub returns-in_default : goal.returns-in_default
-unfolding act_seen act_touch action_of line_seen
+unfolding action_of
 returns-in_default c =
     let a = c.args in
-    let v = a.v in
     c.line.ensures ∙
-    ap (λ (x : Action). touch_record (act_touch x a.operand v.proc.mutex (ready_number v.index) (view_shown v))) (sym (rest actions go 6 a.action refl refl c.in_default.in_default-own.rest))
+    ap touch_record
+    (elim c.in_default.branch [
+      | in_default-via-then-action-lt1 w ↦ goes a.action a.operand a.v (ap action_of {x = a.action} {y = 0} (omega arith))
+      | in_default-via-else-action-lt1+else-action-lt6 w ↦ goes a.action a.operand a.v (get_or-eq_default actions go (omega arith))
+    ])
