@@ -1,12 +1,12 @@
 // The response to one line: the session and the scripts that the program holds, and the text put on a page.
-ghost use Rattle.std.specs.Prelude.{◌≡◌, Some, List, ℕ, ◌+◌, ◌≤◌, length, take, drop};
+ghost use Rattle.std.specs.Prelude.{◌≡◌, Some, ◌≤◌, length};
 ghost use Rattle.command.specs.Printing.{written};
 ghost use Rattle.command.specs.Request.{plain, turn, turns, asked, count_in};
-ghost use Rattle.command.specs.Model.Request.{ask_of};
-ghost use Rattle.command.specs.declared.Command.TheVariants.{Move};
-ghost use Rattle.state.specs.declared.Session.{Session};
+ghost use Rattle.state.specs.declared.Session as record_of;
 ghost use Rattle.touch.specs.Association.{touch_shown};
-ghost use Rattle.session.specs.Contract.{move_answer_of};
+ghost use Rattle.session.specs.Contract.{move_answer_of, last_touched};
+ghost use Rattle.view.specs.Table.{view_text};
+ghost use Rattle.chart.specs.Chart.{chart_text};
 ghost use Rattle.mark.specs.Mark.{marked_of};
 ghost use Rattle.shell.specs.Answers as stepper;
 ghost use Rattle.course.specs.Answers.{move_text, mark_text};
@@ -16,7 +16,7 @@ use crate::class::class;
 use crate::help::put_help;
 use command::Command;
 use command::printing::Page;
-use command::request::{Request, request_of};
+use command::request::Request;
 use session::Moved;
 use shell::Shell;
 use state::Session;
@@ -44,7 +44,7 @@ fn begins(command: Command) -> bool
 // The number of a move or a turn, with the words that it touched where it is accepted.
 #[tactic(auto, using(command::proofs::Put::page_steps), unfolding(session::specs::Contract::move_answer_of, crate::specs::Answers::move_text))]
 fn put_moved(page: &mut Page, answer: Result<Moved, Refusal>)
-    ensures by_index { (r : Session) → page.new ≡ written page.old (move_text (move_answer_of r answer).refusal (touch_shown (move_answer_of r answer).touch)) }
+    ensures by_index { (r : record_of.Session) → page.new ≡ written page.old (move_text (move_answer_of r answer).refusal (touch_shown (move_answer_of r answer).touch)) }
 {
     match answer {
         Ok(made) => {
@@ -84,7 +84,7 @@ impl Course<'_> {
     }
 
     // A line of the stepper: a move also names its words.
-    #[tactic(auto, unfolding(stepper::response, crate::specs::Program::plain_response, crate::specs::Program::response, crate::specs::Program::after))]
+    #[tactic(auto, unfolding(shell::specs::Answers::response, crate::specs::Program::plain_response, crate::specs::Program::response, crate::specs::Program::after))]
     fn plain_line(&mut self, command: Command, page: &mut Page)
         ensures self_after { context_of self.new ≡ after (context_of self.old) (plain command) }
         ensures page_after { page.new ≡ written page.old (response (context_of self.old) (plain command)) }
@@ -101,11 +101,37 @@ impl Course<'_> {
         ensures self_after { context_of self.new ≡ after (context_of self.old) (turn p) }
         ensures page_after { page.new ≡ written page.old (response (context_of self.old) (turn p)) }
     {
-        let answer = turns::turn(session, self.shell.journal, self.scripts, p);
+        let scripts = &mut *self.scripts;
+        let answer = turns::turn(session, self.shell.journal, scripts, p);
         put_moved(page, answer);
         if let Ok(made) = answer {
             self.shell.session = Some(made.session);
         }
+    }
+
+    #[tactic(auto, unfolding(crate::specs::Program::response, crate::specs::Program::after))]
+    fn turns_line(&mut self, session: Session, processors: &[u8], page: &mut Page)
+        requires { self.old.shell.session ≡ Some session }
+        ensures self_after { context_of self.new ≡ after (context_of self.old) (turns processors.now) }
+        ensures page_after { page.new ≡ written page.old (response (context_of self.old) (turns processors.now)) }
+    {
+        let scripts = &mut *self.scripts;
+        let left = class(page, session, self.shell.journal, scripts, processors);
+        self.shell.session = Some(left);
+    }
+
+    // The words that are marked are those of the last standing move.
+    fn view_line(&self, session: Session, page: &mut Page)
+        ensures { page.new ≡ written page.old (view_text session.state (touch_shown (last_touched session self.now.shell.journal.now))) }
+    {
+        let touch = session::last_touch(session, self.shell.journal);
+        view::view(page, session.state, touch);
+    }
+
+    fn chart_line(&self, session: Session, page: &mut Page)
+        ensures { page.new ≡ written page.old (chart_text session self.now.shell.journal.now) }
+    {
+        chart::chart(page, session, self.shell.journal);
     }
 
     // One ask, whose numbers stand in `numbers`: a mark's two pictures one behind the other. Before a start has been accepted, what is about a session is answered
@@ -129,15 +155,9 @@ impl Course<'_> {
                 page.number_line(outcome(set));
             }
             (Request::Turn(p), Some(session)) => self.turn_line(session, p, page),
-            (Request::Turns(n), Some(session)) => {
-                let turns = &numbers[..n as usize];
-                self.shell.session = Some(class(page, session, self.shell.journal, self.scripts, turns));
-            }
-            (Request::View, Some(session)) => {
-                let touch = session::last_touch(session, self.shell.journal);
-                view::view(page, session.state, touch);
-            }
-            (Request::Chart, Some(session)) => chart::chart(page, session, self.shell.journal),
+            (Request::Turns(n), Some(session)) => self.turns_line(session, &numbers[..n as usize], page),
+            (Request::View, Some(session)) => self.view_line(session, page),
+            (Request::Chart, Some(session)) => self.chart_line(session, page),
             (Request::MarkOwn(n), Some(session)) => {
                 put_mark(page, mark::mark_state(session.state, &numbers[..n as usize]));
             }
