@@ -1,6 +1,5 @@
 -- A refusal has a number: 0 is none of them.
 -- Assumes nothing.
-use Prim.Native.Nat.{ℕ}
 use mathlib.Core.Bool.{false}
 use mathlib.Core.Path.{◌≡◌, refl}
 use lib.Dec.{eqb}
