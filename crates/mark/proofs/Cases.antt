@@ -8,9 +8,15 @@ use mathlib.Core.Path.{◌≡◌, refl, sym, ap, ◌∙◌}
 use native.Mathlib.Omega.{arith}
 use lib.Dec.{eqb, ltb}
 use lib.ListN.{length, take}
-use borrow.Author.Tests.{eqb-true, not-false}
-use Rattle.picture.specs.Picture.{byte, picture_length, write_refusal, written, fields, read_refusal}
-use Rattle.picture.proofs.Numbers.{Numbered, refuse_numbered, read_numbered}
+use borrow.Author.Tests.{eqb-true, not-false, eq-eqb, ne_eqb}
+use Rattle.std.proofs.Common.{Result, Ok, Err}
+use Rattle.state.specs.declared.refusal.Refusal.{Refusal}
+use Rattle.state.specs.declared.refusal.Refusal.TheVariants.{BadLength}
+use Rattle.state.specs.Refusal.{number, outcome}
+use Rattle.state.proofs.Refused.{not_none}
+use Rattle.reference.specs.Refusal.{bad_length, refuse}
+use Rattle.picture.specs.Picture.{read, read_shown, byte, picture_length, write_refusal, written, fields, read_refusal}
+use Rattle.picture.proofs.Numbers.{outcome_read, Numbered, refuse_numbered, read_numbered}
 use Rattle.picture.proofs.Written.{written-front}
 use Rattle.state.proofs.Branch.{if_some}
 use Rattle.state.specs.declared.State.{State}
@@ -20,8 +26,7 @@ use Rattle.reference.specs.Lists.{if_zero}
 use Rattle.reference.specs.Picture.{picture}
 use Rattle.reference.proofs.Sums.{if_zero-by}
 use Rattle.reference.proofs.Tests.{◌and◌, range_true, passed}
-use Rattle.mark.specs.declared.Marked.{Marked}
-use Rattle.mark.specs.Mark.{mark, mark_refusal, marked, answer, state_marked}
+use Rattle.mark.specs.Mark.{Marked, marked_of, mark, mark_refusal, marked, answer, state_marked}
 use Rattle.mark.specs.Model.Comparable.{Comparable}
 
 -- ---- the refusals
@@ -62,40 +67,55 @@ accepted b c e =
 
 -- ---- what is answered
 
-module _ (b c : List ℕ) (n : ℕ) (e : n ≡ mark_refusal b c) where
-  pub marked_refused : (n ≡ 0 → ⊥) → record { refusal = n; mark = 0 } ≡ marked b c
-  unfolding marked
-  marked_refused h = rw (← e, if_some n (mark b c) 0 h)
+module _ (b c : List ℕ) (r : Result State Refusal) (shown : read_shown r ≡ read b) where
+  number-read : (e : Refusal) → r ≡ Err e → number e ≡ read_refusal b
+  unfolding outcome
+  number-read e was = ap outcome (sym was) ∙ outcome_read b r shown
 
-  pub marked-none : n ≡ 0 → (k : ℕ) → k ≡ mark b c → record { refusal = 0; mark = k } ≡ marked b c
-  unfolding marked
-  marked-none h k f = rw (f, ← e, h)
+  none-read : (s : State) → r ≡ Ok s → read_refusal b ≡ 0
+  unfolding outcome
+  none-read s was = sym (outcome_read b r shown) ∙ ap outcome was
+
+  pub marked-unread : (e : Refusal) → r ≡ Err e → marked_of (Err e) ≡ marked b c
+  unfolding marked marked_of mark_refusal
+  marked-unread e was =
+      let h : number e ≡ read_refusal b = number-read e was in
+      rw (← h, if_some (number e) (refuse (not (eqb (length c) (length b))) bad_length 0) (number e) (not_none e), if_some (number e) (mark b c) 0 (not_none e))
+
+  pub marked-length : (s : State) → r ≡ Ok s → (length c ≡ length b → ⊥) → marked_of (Err BadLength) ≡ marked b c
+  unfolding marked marked_of mark_refusal number
+  marked-length s was h = rw (none-read s was, ne_eqb (length c) (length b) h)
+
+  pub passed-both : (s : State) → r ≡ Ok s → length c ≡ length b → mark_refusal b c ≡ 0
+  unfolding mark_refusal
+  passed-both s was h = rw (none-read s was, eq-eqb (length c) (length b) h)
+
+pub marked-none : (b c : List ℕ) → mark_refusal b c ≡ 0 → (k : ℕ) → k ≡ mark b c → marked_of (Ok k) ≡ marked b c
+unfolding marked marked_of
+marked-none b c e k f = rw (f, e)
 
 -- as one number
 module _ (b c : List ℕ) (r : Marked) (e : r ≡ marked b c) where
-  number : r.refusal ≡ mark_refusal b c
+  own-number : r.refusal ≡ mark_refusal b c
   unfolding marked
-  number = ap (λ (x : Marked). x.refusal) e
+  own-number = ap (λ (x : Marked). x.refusal) e
 
   pub answer-refused : (r.refusal ≡ 0 → ⊥) → 20000 + r.refusal ≡ answer b c
   unfolding answer
-  answer-refused h = rw (← number) (sym (if_some r.refusal (mark b c) _ h))
+  answer-refused h = rw (← own-number) (sym (if_some r.refusal (mark b c) _ h))
 
   pub answer-accepted : r.refusal ≡ 0 → r.mark ≡ answer b c
   unfolding marked answer
-  answer-accepted h = ap (λ (x : Marked). x.mark) e ∙ rw (sym number ∙ h)
+  answer-accepted h = ap (λ (x : Marked). x.mark) e ∙ rw (sym own-number ∙ h)
 
 -- ---- against the picture of a record
 
-module _ (r : State) (n : ℕ) (e : n ≡ write_refusal r 296) where
-  pub state-refused : (n ≡ 0 → ⊥) → (c : List ℕ) → record { refusal = n; mark = 0 } ≡ state_marked r c
-  unfolding state_marked
-  state-refused h c = rw (← e) (sym (if_some n (marked (picture (decode r)) c) _ h))
+module _ (r : State) where
+  pub state-refused : (e : Refusal) → number e ≡ write_refusal r 296 → (c : List ℕ) → marked_of (Err e) ≡ state_marked r c
+  unfolding state_marked marked_of
+  state-refused e h c = rw (← h) (sym (if_some (number e) (marked (picture (decode r)) c) _ (not_none e)))
 
-  module _ (none : n ≡ 0) where
-    -- the front of what is written is the picture
-    pub state-accepted : (b v : List ℕ) (k : ℕ) → length b ≡ 296 → v ≡ written r b → k ≡ picture_length r → (c : List ℕ) → marked (take k v) c ≡ state_marked r c
-    unfolding state_marked
-    state-accepted b v k l w h c =
-        let q : write_refusal r 296 ≡ 0 = sym e ∙ none in
-        rw (h, w, q, written-front r b (ap (write_refusal r) l ∙ q))
+  -- the front of what is written is the picture
+  pub state-accepted : write_refusal r 296 ≡ 0 → (b v : List ℕ) (k : ℕ) → length b ≡ 296 → v ≡ written r b → k ≡ picture_length r → (c : List ℕ) → marked (take k v) c ≡ state_marked r c
+  unfolding state_marked
+  state-accepted q b v k l w h c = rw (h, w, q, written-front r b (ap (write_refusal r) l ∙ q))

@@ -10,8 +10,7 @@ use native.Mathlib.Omega.{arith}
 use lib.Dec.{eqb}
 use lib.ListN.{length, drop}
 use borrow.Author.Tests.{eq-eqb, ne_eqb, le-ltb}
-use Rattle.picture.specs.declared.answer.Read.{Read}
-use Rattle.picture.specs.Picture.{byte, picture_length, write_refusal, read_refusal, read}
+use Rattle.picture.specs.Picture.{Read, byte, picture_length, write_refusal, read_refusal, read}
 use Rattle.picture.proofs.RoundTrip.{picture-reads}
 use Rattle.picture.proofs.Written.{picture_size}
 use Rattle.state.specs.declared.State.{State}

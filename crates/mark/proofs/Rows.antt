@@ -1,11 +1,13 @@
 -- The points of records: one more, those of two lists, and that no more are earned than there are.
 -- Assumes nothing.
+use Rattle.std.proofs.Common.{nat_eq, length, take, drop}
+use Rattle.std.specs.Cmp.Lexicographic.{pointwise}
+use Rattle.std.proofs.Math.Seq.{drop-cons}
 use Prim.Native.Nat.{ℕ, zero, suc, ◌+◌, ◌-◌, ◌*◌, ◌/◌, ◌≤◌, ◌<◌}
-use mathlib.Core.Bool.{Bool, true, false, ◌&&◌, and-true, and_assoc}
+use mathlib.Core.Bool.{Bool, true, false}
 use mathlib.Core.List.{List, [], ◌∷◌, ◌++◌}
 use mathlib.Core.Path.{◌≡◌, refl, ◌∙◌}
 use native.Mathlib.Nat.{div-le_of_le-mul}
-use native.Mathlib.Numerals.{add-one}
 use native.Mathlib.Omega.{arith}
 use lib.Dec.{eqb}
 use Rattle.picture.specs.Picture.{byte}
@@ -17,15 +19,11 @@ use Rattle.mark.specs.Mark.{Row, rows, all_rows, agrees, earned, possible}
 abbrev pub same_byte : List ℕ → List ℕ → ℕ → Bool
 same_byte b c i = eqb (byte b i) (byte c i)
 
--- ---- a loop from lo to hi: one turn, and its end
-
-pub each_turn : (test : ℕ → Bool) (ok : Bool) (lo hi : ℕ) → lo < hi → (ok && test lo) && each test (lo + 1) (hi - (lo + 1)) ≡ ok && each test lo (hi - lo)
+-- two slices are the same exactly if each byte is
+pub same_slices : (b c : List ℕ) (at w : ℕ) → at + w ≤ length b → at + w ≤ length c → pointwise nat_eq (take w (drop at b)) (take w (drop at c)) ≡ each (same_byte b c) at w
 unfolding each
-each_turn test ok lo hi h = let e : hi - lo ≡ suc (hi - suc lo) = omega arith in rw (e, add-one) (and_assoc ok (test lo) _)
-
-pub each_over : (test : ℕ → Bool) (ok : Bool) (lo hi : ℕ) → hi ≤ lo → ok && each test lo (hi - lo) ≡ ok
-unfolding each
-each_over test ok lo hi h = let e : hi - lo ≡ 0 = omega arith in rw e (and-true ok)
+same_slices b c at zero h g = refl
+same_slices b c at (suc w) h g = rw (drop-cons b at 0 (omega arith), drop-cons c at 0 (omega arith), same_slices b c (suc at) w (omega arith) (omega arith))
 
 -- ---- records of one kind
 

@@ -1,7 +1,8 @@
 -- No. 12, document 02: the mark of a handed-in picture. `b` is the machine's picture, `c` the candidate's, both as bytes.
 -- Assumes nothing.
-use Rattle.std.specs.Prelude.{ℕ, zero, suc, ◌+◌, ◌*◌, ◌/◌, Bool, not, List, [], ◌∷◌, ◌++◌, eqb, length}
-use Rattle.mark.specs.declared.Marked.{Marked}
+use Rattle.std.specs.Prelude.{ℕ, zero, suc, ◌+◌, ◌*◌, ◌/◌, Bool, not, List, [], ◌∷◌, ◌++◌, eqb, length, Result, Ok, Err}
+use Rattle.state.specs.declared.refusal.Refusal.{Refusal}
+use Rattle.state.specs.Refusal.{number}
 use Rattle.picture.specs.Picture.{byte, read_refusal, write_refusal}
 use Rattle.state.specs.declared.State.{State}
 use Rattle.state.specs.Association.{decode}
@@ -54,8 +55,17 @@ unfoldable pub mark_refusal : List ℕ → List ℕ → ℕ
 mark_refusal b c = if_zero (read_refusal b) (refuse (not (eqb (length c) (length b))) bad_length 0) (read_refusal b)
 
 -- 0 or the refusal, and the mark; refused, no mark
+pub record Marked : Type 0 where
+  pub refusal : ℕ
+  pub mark : ℕ
+
 unfoldable pub marked : List ℕ → List ℕ → Marked
 marked b c = record { refusal = mark_refusal b c; mark = if_zero (mark_refusal b c) (mark b c) 0 }
+
+-- the same of the code's answer
+unfoldable pub marked_of : Result ℕ Refusal → Marked
+marked_of (Ok mark) = record { refusal = 0; mark = mark }
+marked_of (Err refusal) = record { refusal = number refusal; mark = 0 }
 
 -- as one number: the mark, or 20,000 and the refusal
 unfoldable pub answer : List ℕ → List ℕ → ℕ

@@ -3,7 +3,7 @@ ghost use Rattle.std.specs.Prelude.{◌≡◌, ◌+◌, ◌*◌, ◌/◌, ◌≤
 ghost use Rattle.mark.specs.Mark.{rows, agrees, earned, mark};
 ghost use Rattle.mark.specs.Model.Comparable.{Comparable};
 
-use state::layout::{Width, threads_at};
+use state::layout::{Width, mutexes_at, threads_at};
 
 // The points of a record that agrees.
 const PROCESSOR: u32 = 5;
@@ -20,11 +20,7 @@ pub(crate) fn agrees(machine: &[u8], candidate: &[u8], at: usize, width: usize) 
     requires { (at + width ≤ length machine.now) × (at + width ≤ length candidate.now) }
     ensures { result ≡ agrees machine.now candidate.now (record { at = at; width = width; points = 0 }) }
 {
-    let mut same = true;
-    for i in at..at + width {
-        same = same & (machine[i] == candidate[i]);
-    }
-    same
+    machine[at..at + width] == candidate[at..at + width]
 }
 
 // The points of n records of one kind, of which the first begins at byte `at`.
@@ -41,13 +37,11 @@ pub(crate) fn earned(
 {
     let mut sum: u32 = 0;
     let mut from = at;
-    let mut left = n;
-    while left > 0 {
+    for _ in 0..n {
         if agrees(machine, candidate, from, width) {
             sum += points;
         }
         from += width;
-        left -= 1;
     }
     sum
 }
@@ -68,7 +62,6 @@ pub(crate) fn mark_of(machine: &[u8], candidate: &[u8]) -> u16
     let p = machine[0];
     let t = machine[1];
     let m = machine[2];
-    let mutexes_at = Width::HEADER + Width::PROCESSOR * (p as usize);
     let processors = earned(
         machine,
         candidate,
@@ -77,7 +70,7 @@ pub(crate) fn mark_of(machine: &[u8], candidate: &[u8]) -> u16
         PROCESSOR,
         p,
     );
-    let mutexes = earned(machine, candidate, mutexes_at, Width::MUTEX, MUTEX, m);
+    let mutexes = earned(machine, candidate, mutexes_at(p), Width::MUTEX, MUTEX, m);
     let threads = earned(
         machine,
         candidate,

@@ -10,11 +10,21 @@ use lib.Dec.{eqb, ltb}
 use lib.ListN.{length}
 use Rattle.state.specs.Rules.{sizes_ok, fields_ok, chains_ok, holders_ok, broken_rule}
 use Rattle.reference.specs.Refusal.{refuse}
-use Rattle.picture.specs.Picture.{Read, picture_length, fields, zero_bytes_ok, read_refusal, read}
+use Rattle.std.proofs.Common.{Result, Ok, Err}
+use Rattle.state.specs.declared.State.{State}
+use Rattle.state.specs.declared.refusal.Refusal.{Refusal}
+use Rattle.state.specs.Refusal.{outcome}
+use Rattle.picture.specs.Picture.{Read, read_shown, picture_length, fields, zero_bytes_ok, read_refusal, read}
 
 pub read_number : (b : List ℕ) (r : Read) → r ≡ read b → r.refusal ≡ read_refusal b
 unfolding read
 read_number b r e = ap (λ (x : Read). x.refusal) e
+
+-- the number of the code's answer
+pub outcome_read : (b : List ℕ) (r : Result State Refusal) → read_shown r ≡ read b → outcome r ≡ read_refusal b
+unfolding outcome read_shown
+outcome_read b (Ok s) e = read_number b (read_shown (Ok s)) e
+outcome_read b (Err k) e = read_number b (read_shown (Err k)) e
 
 -- 0, or from 11 to 14
 abbrev pub Numbered : ℕ → Type 0

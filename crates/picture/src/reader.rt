@@ -1,21 +1,13 @@
 // The parts of a picture, read from bytes: past their end there are zeros.
 ghost use Rattle.std.specs.Prelude.{◌≡◌};
-ghost use Rattle.reference.specs.Picture.{mutexes_at};
 ghost use Rattle.picture.specs.Picture.{first_read, fields, zero_bytes_ok};
 
 use crate::row::{from, record, table, two};
 use state::access::at;
-use state::layout::{Width, threads_at};
+use state::layout::{Width, mutexes_at, threads_at};
 use state::range::each;
 use state::{Chains, Mutex, Processor, State, Thread};
 use std::array;
-
-// Where the mutex records begin.
-pub(crate) fn mutexes_at(p: u8) -> usize
-    ensures { result ≡ mutexes_at p }
-{
-    Width::HEADER + Width::PROCESSOR * (p as usize)
-}
 
 // The first of queue q: of the single ready queue in the header, of a mutex's and of a processor's in its record.
 fn first<'a>(ready: u8, processors: &'a [u8], p: u8, mutexes: &'a [u8], m: u8, q: u8) -> u8

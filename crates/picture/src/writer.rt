@@ -5,10 +5,9 @@ ghost use Rattle.reference.specs.Refusal.{too_short, refuse};
 ghost use Rattle.picture.specs.Model.Parts.{over, record_bytes};
 ghost use Rattle.picture.specs.Picture.{picture_length};
 
-use crate::reader::mutexes_at;
 use crate::row::{from, put_table, store};
 use state::State;
-use state::layout::{Width, picture_bytes, threads_at};
+use state::layout::{Width, mutexes_at, picture_bytes, threads_at};
 use state::refusal::Refusal;
 
 // The whole of a state where it fits: 10 where not.

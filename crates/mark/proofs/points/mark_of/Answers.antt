@@ -11,6 +11,4 @@ overflow_cast-result c = omega (arith, share_most _ _ _ c.share.ensures (omega a
 pub returns : goal.returns
 unfolding mark rows_of
 returns c =
-    let e = c in
-    let f = e in
-    rw (c.share.ensures, e.earned-threads.ensures.0, e.threads_at.ensures, f.earned-mutexes.ensures.0, f.earned-processors.ensures.0, earned-all, possible-all)
+    rw (c.share.ensures, c.earned-threads.ensures.0, c.threads_at.ensures, c.earned-mutexes.ensures.0, c.mutexes_at.ensures, c.earned-processors.ensures.0, earned-all, possible-all)
