@@ -1,15 +1,16 @@
 // The response to one line: the session and the scripts that the program holds, and the text put on a page.
-ghost use Rattle.std.specs.Prelude.{◌≡◌, Some, ◌≤◌, length};
+ghost use Rattle.std.specs.Prelude.{◌≡◌, true, Some, ◌≤◌, length};
 ghost use Rattle.command.specs.Printing.{written};
-ghost use Rattle.command.specs.Request.{plain, turn, turns, asked, count_in};
+ghost use Rattle.command.specs.Request.{plain, asked, count_in};
 ghost use Rattle.state.specs.declared.Session as record_of;
 ghost use Rattle.touch.specs.Association.{touch_shown};
 ghost use Rattle.session.specs.Contract.{move_answer_of, last_touched};
+ghost use Rattle.turns.specs.Contract.{turned, turn_journal, classed, class_journal};
 ghost use Rattle.view.specs.Table.{view_text};
 ghost use Rattle.chart.specs.Chart.{chart_text};
 ghost use Rattle.mark.specs.Mark.{marked_of};
 ghost use Rattle.shell.specs.Answers as stepper;
-ghost use Rattle.course.specs.Answers.{move_text, mark_text};
+ghost use Rattle.course.specs.Answers.{move_text, zeros, class_text, mark_text};
 ghost use Rattle.course.specs.Program.{context_of, starts, response, after};
 
 use crate::class::class;
@@ -30,7 +31,6 @@ pub struct Course<'a> {
 }
 
 // Whether a command is a start that is accepted.
-#[tactic(auto, unfolding(session::specs::Contract::answer_of, crate::specs::Program::starts))]
 fn begins(command: Command) -> bool
     ensures { result ≡ starts command }
 {
@@ -42,7 +42,7 @@ fn begins(command: Command) -> bool
 }
 
 // The number of a move or a turn, with the words that it touched where it is accepted.
-#[tactic(auto, using(command::proofs::Put::page_steps), unfolding(session::specs::Contract::move_answer_of, crate::specs::Answers::move_text))]
+#[tactic(auto, using(command::proofs::Put::page_steps, crate::proofs::Lines::for_refusal), unfolding(session::specs::Contract::move_answer_of, crate::specs::Answers::move_text))]
 fn put_moved(page: &mut Page, answer: Result<Moved, Refusal>)
     ensures by_index { (r : record_of.Session) → page.new ≡ written page.old (move_text (move_answer_of r answer).refusal (touch_shown (move_answer_of r answer).touch)) }
 {
@@ -57,7 +57,7 @@ fn put_moved(page: &mut Page, answer: Result<Moved, Refusal>)
 }
 
 // A mark on a line of its own, or the refusal.
-#[tactic(auto, using(command::proofs::Put::page_steps), unfolding(mark::specs::Mark::marked_of, crate::specs::Answers::mark_text))]
+#[tactic(auto, using(command::proofs::Put::page_steps, crate::proofs::Lines::for_refusal), unfolding(mark::specs::Mark::marked_of, crate::specs::Answers::mark_text))]
 fn put_mark(page: &mut Page, answer: Result<u16, Refusal>)
     ensures { page.new ≡ written page.old (mark_text (marked_of answer)) }
 {
@@ -66,8 +66,39 @@ fn put_mark(page: &mut Page, answer: Result<u16, Refusal>)
             page.hundredths(mark);
             page.push(b'\n');
         }
-        Err(refusal) => page.number_line(refusal.number()),
+        Err(refused) => page.number_line(refused.number()),
     }
+}
+
+// A turn of processor p.
+#[tactic(auto, unfolding(session::specs::Contract::move_answer_of))]
+fn turn_line(shell: &mut Shell, scripts: &mut [u8], session: Session, p: u8, page: &mut Page)
+    ensures shell_after { stepper.context_of shell.new ≡ stepper.holding true (turned session shell.old.journal.now scripts.old p).session (turn_journal session shell.old.journal.now scripts.old p) }
+    ensures scripts_after { scripts.new ≡ scripts.old }
+    ensures page_after { page.new ≡ written page.old (move_text (turned session shell.old.journal.now scripts.old p).refusal (touch_shown (turned session shell.old.journal.now scripts.old p).touch)) }
+{
+    let answer = turns::turn(session, shell.journal, scripts, p);
+    put_moved(page, answer);
+    let left = match answer {
+        Ok(made) => made.session,
+        Err(_) => session,
+    };
+    shell.session = Some(left);
+}
+
+fn turns_line(
+    shell: &mut Shell,
+    scripts: &mut [u8],
+    session: Session,
+    processors: &[u8],
+    page: &mut Page,
+)
+    ensures shell_after { stepper.context_of shell.new ≡ stepper.holding true (classed session shell.old.journal.now scripts.old processors.now (zeros 1024) (zeros 303104)).session (class_journal session shell.old.journal.now scripts.old processors.now (zeros 1024) (zeros 303104)) }
+    ensures scripts_after { scripts.new ≡ scripts.old }
+    ensures page_after { page.new ≡ written page.old (class_text session shell.old.journal.now scripts.old processors.now) }
+{
+    let left = class(page, session, shell.journal, scripts, processors);
+    shell.session = Some(left);
 }
 
 impl Course<'_> {
@@ -93,31 +124,6 @@ impl Course<'_> {
             (Command::Move(p, a, o), Some(session)) => put_moved(page, self.shell.make_move(session, p, a, o)),
             _ => self.stepper_line(command, page),
         }
-    }
-
-    #[tactic(auto, unfolding(session::specs::Contract::move_answer_of, crate::specs::Program::response, crate::specs::Program::after))]
-    fn turn_line(&mut self, session: Session, p: u8, page: &mut Page)
-        requires { self.old.shell.session ≡ Some session }
-        ensures self_after { context_of self.new ≡ after (context_of self.old) (turn p) }
-        ensures page_after { page.new ≡ written page.old (response (context_of self.old) (turn p)) }
-    {
-        let scripts = &mut *self.scripts;
-        let answer = turns::turn(session, self.shell.journal, scripts, p);
-        put_moved(page, answer);
-        if let Ok(made) = answer {
-            self.shell.session = Some(made.session);
-        }
-    }
-
-    #[tactic(auto, unfolding(crate::specs::Program::response, crate::specs::Program::after))]
-    fn turns_line(&mut self, session: Session, processors: &[u8], page: &mut Page)
-        requires { self.old.shell.session ≡ Some session }
-        ensures self_after { context_of self.new ≡ after (context_of self.old) (turns processors.now) }
-        ensures page_after { page.new ≡ written page.old (response (context_of self.old) (turns processors.now)) }
-    {
-        let scripts = &mut *self.scripts;
-        let left = class(page, session, self.shell.journal, scripts, processors);
-        self.shell.session = Some(left);
     }
 
     // The words that are marked are those of the last standing move.
@@ -154,8 +160,13 @@ impl Course<'_> {
                 let set = script::set_script(session.state.t, self.scripts, k, &numbers[..n as usize]);
                 page.number_line(outcome(set));
             }
-            (Request::Turn(p), Some(session)) => self.turn_line(session, p, page),
-            (Request::Turns(n), Some(session)) => self.turns_line(session, &numbers[..n as usize], page),
+            (Request::Turn(p), Some(session)) => {
+                turn_line(&mut self.shell, self.scripts, session, p, page);
+            }
+            (Request::Turns(n), Some(session)) => {
+                let processors = &numbers[..n as usize];
+                turns_line(&mut self.shell, self.scripts, session, processors, page);
+            }
             (Request::View, Some(session)) => self.view_line(session, page),
             (Request::Chart, Some(session)) => self.chart_line(session, page),
             (Request::MarkOwn(n), Some(session)) => {

@@ -10,22 +10,18 @@ use state::Session;
 use state::layout::picture_bytes;
 
 // The lines of n turns, whose pictures have `size` bytes each.
-#[tactic(auto, using(command::proofs::Put::page_steps))]
 fn turn_lines(page: &mut Page, size: usize, answers: &[u8], pictures: &[u8])
     requires { length answers.now * size ≤ length pictures.now }
     ensures { page.new ≡ written page.old (turn_lines size answers.now pictures.now) }
 {
-    let mut from: usize = 0;
-    for &answer in answers {
-        let next = from + size;
+    for (i, &answer) in answers.iter().enumerate() {
+        let from = i * size;
         page.number_line(answer);
-        page.hex_line(&pictures[from..next]);
-        from = next;
+        page.hex_line(&pictures[from..from + size]);
     }
 }
 
 // A class: each turn's answer and picture on lines of their own, and the record that it leaves. Refused as a whole, its number.
-#[tactic(auto, unfolding(session::specs::Contract::answer_of))]
 pub fn class(
     page: &mut Page,
     session: Session,
