@@ -23,12 +23,16 @@ impl Line {
         ensures value { result ≡ fed self (length bytes.old) }
         ensures bytes_after { bytes.new ≡ set bytes.old self.len b }
     {
-        let len = self.len;
-        let long = self.long;
-        if len < bytes.len() {
-            bytes[len] = b;
-            return Line { len: len + 1, long };
+        if self.len < bytes.len() {
+            bytes[self.len] = b;
+            return Line {
+                len: self.len + 1,
+                long: self.long,
+            };
         }
-        Line { len, long: true }
+        Line {
+            len: self.len,
+            long: true,
+        }
     }
 }
