@@ -2,14 +2,14 @@
 use Prim.Native.Nat.{ℕ, ◌+◌, ◌*◌, ◌-◌, ◌/◌, ◌%◌, ◌≤◌, ◌<◌}
 use native.Mathlib.Omega.{arith}
 use mathlib.Core.Bool.{Bool, true, false, cond}
-use mathlib.Core.Logic.{◌⊎◌, inl, inr}
-use mathlib.Core.Path.{◌≡◌, refl, sym, ap, ap₂, ◌∙◌}
+use mathlib.Core.Path.{◌≡◌, refl, sym, ap, ap₂, subst, ◌∙◌}
 use mathlib.Core.List.{List, [], ◌∷◌, ◌++◌}
 use lib.Dec.{eqb, leb, ltb}
-use lib.ListN.{length, get_or, drop}
+use lib.ListN.{length, get_or, drop, length-append}
 use borrow.Author.Tests.{lt-ltb, le-ltb, le-leb, ne_eqb, ltb-true, ltb-false, leb-true, eqb-true, eqb-false}
-use Rattle.command.specs.declared.reading.Number.{Number}
-use Rattle.command.specs.Model.Reading.{is_digit, longer, no_number, fit, number_of, number_at, field_at}
+use Rattle.command.specs.Model.Reading.{is_digit, longer, number_of, read_number, read_field}
+use Rattle.std.proofs.Common.{Option, Some, None}
+use Rattle.std.specs.Option.{IfSome, option_and_then}
 use Rattle.command.specs.Printing.{decimal, wide}
 use Rattle.command.specs.Command.{field, wide_field}
 use Rattle.command.proofs.Laws.{both}
@@ -39,21 +39,21 @@ digit_yes b h k = rw (le-leb 48 b h, le-leb b 57 k)
 -- ---- a number that is spelled is read
 
 module _ (most n : ℕ) (rest : List ℕ) (m : n ≤ most) (e : is_digit (get_or rest 0 0) ≡ false) where
-  spelled_one : n < 10 → number_at most (32 ∷ (48 + n) ∷ rest) ≡ record { value = n; width = 2 }
-  unfolding number_at number_of
+  spelled_one : n < 10 → read_number most (32 ∷ (48 + n) ∷ rest) ≡ Some (n, rest)
+  unfolding read_number number_of
   spelled_one h =
       let v : 48 + n - 48 ≡ n = omega arith in
       rw (digit_yes (48 + n) (omega arith) (omega arith), e, v, le-leb n most m)
 
-  spelled_two : 10 ≤ n → n < 100 → number_at most (32 ∷ (48 + n / 10) ∷ (48 + n % 10) ∷ rest) ≡ record { value = n; width = 3 }
-  unfolding number_at number_of
+  spelled_two : 10 ≤ n → n < 100 → read_number most (32 ∷ (48 + n / 10) ∷ (48 + n % 10) ∷ rest) ≡ Some (n, rest)
+  unfolding read_number number_of
   spelled_two h k =
       let v : longer (48 + n / 10 - 48) (48 + n % 10) ≡ n = omega arith in
       let z : 48 + n / 10 ≡ 48 → ⊥ = λ q. omega arith in
       rw (digit_yes (48 + n / 10) (omega arith) (omega arith), digit_yes (48 + n % 10) (omega arith) (omega arith), ne_eqb (48 + n / 10) 48 z, e, v, le-leb n most m)
 
-  spelled_three : 100 ≤ n → n < 1000 → number_at most (32 ∷ (48 + n / 100) ∷ (48 + n / 10 % 10) ∷ (48 + n % 10) ∷ rest) ≡ record { value = n; width = 4 }
-  unfolding number_at number_of
+  spelled_three : 100 ≤ n → n < 1000 → read_number most (32 ∷ (48 + n / 100) ∷ (48 + n / 10 % 10) ∷ (48 + n % 10) ∷ rest) ≡ Some (n, rest)
+  unfolding read_number number_of
   spelled_three h k =
       let v : longer (longer (48 + n / 100 - 48) (48 + n / 10 % 10)) (48 + n % 10) ≡ n = omega arith in
       let z : 48 + n / 100 ≡ 48 → ⊥ = λ q. omega arith in
@@ -68,8 +68,8 @@ module _ (most n : ℕ) (rest : List ℕ) (m : n ≤ most) (e : is_digit (get_or
       )
 
   spelled_four : 1000 ≤ n → n < 10000
-      → number_at most (32 ∷ (48 + n / 1000) ∷ (48 + n / 100 % 10) ∷ (48 + n / 10 % 10) ∷ (48 + n % 10) ∷ rest) ≡ record { value = n; width = 5 }
-  unfolding number_at number_of
+      → read_number most (32 ∷ (48 + n / 1000) ∷ (48 + n / 100 % 10) ∷ (48 + n / 10 % 10) ∷ (48 + n % 10) ∷ rest) ≡ Some (n, rest)
+  unfolding read_number number_of
   spelled_four h k =
       let x : n / 100 ≡ 10 * (n / 1000) + n / 100 % 10 = omega arith in
       let y : n / 10 ≡ 10 * (n / 100) + n / 10 % 10 = omega arith in
@@ -85,19 +85,19 @@ module _ (most n : ℕ) (rest : List ℕ) (m : n ≤ most) (e : is_digit (get_or
         le-leb n most m,
       )
 
-  pub number_spelled : n < 10000 → number_at most (wide_field n ++ rest) ≡ record { value = n; width = length (wide_field n) }
+  pub number_spelled : n < 10000 → read_number most (wide_field n ++ rest) ≡ Some (n, rest)
   unfolding wide_field
   number_spelled h = one (ltb n 10) refl
     where
-      three : (t : Bool) → ltb n 1000 ≡ t → 100 ≤ n → number_at most (32 ∷ (wide n ++ rest)) ≡ record { value = n; width = length (32 ∷ wide n) }
+      three : (t : Bool) → ltb n 1000 ≡ t → 100 ≤ n → read_number most (32 ∷ (wide n ++ rest)) ≡ Some (n, rest)
       three true t k = rw (wide-three n k (ltb-true n 1000 t)) (spelled_three k (ltb-true n 1000 t))
       three false t k = rw (wide_four n (ltb-false n 1000 t) h) (spelled_four (ltb-false n 1000 t) h)
 
-      two : (t : Bool) → ltb n 100 ≡ t → 10 ≤ n → number_at most (32 ∷ (wide n ++ rest)) ≡ record { value = n; width = length (32 ∷ wide n) }
+      two : (t : Bool) → ltb n 100 ≡ t → 10 ≤ n → read_number most (32 ∷ (wide n ++ rest)) ≡ Some (n, rest)
       two true t k = rw (wide-two n k (ltb-true n 100 t)) (spelled_two k (ltb-true n 100 t))
       two false t k = three (ltb n 1000) refl (ltb-false n 100 t)
 
-      one : (t : Bool) → ltb n 10 ≡ t → number_at most (32 ∷ (wide n ++ rest)) ≡ record { value = n; width = length (32 ∷ wide n) }
+      one : (t : Bool) → ltb n 10 ≡ t → read_number most (32 ∷ (wide n ++ rest)) ≡ Some (n, rest)
       one true t = rw (wide_one n (ltb-true n 10 t)) (spelled_one (ltb-true n 10 t))
       one false t = two (ltb n 100) refl (ltb-false n 10 t)
 
@@ -106,8 +106,8 @@ byte-field : (n : ℕ) → n ≤ 255 → wide_field n ≡ field n
 unfolding field wide_field
 byte-field n h = ap (λ (d : List ℕ). 32 ∷ d) (sym (wide_short n (omega arith)))
 
-pub field_spelled : (n : ℕ) (rest : List ℕ) → n ≤ 255 → is_digit (get_or rest 0 0) ≡ false → field_at (field n ++ rest) ≡ record { value = n; width = length (field n) }
-unfolding field_at
+pub field_spelled : (n : ℕ) (rest : List ℕ) → n ≤ 255 → is_digit (get_or rest 0 0) ≡ false → read_field (field n ++ rest) ≡ Some (n, rest)
+unfolding read_field
 field_spelled n rest h e = rw (← byte-field n h, number_spelled 255 n rest h e (omega arith))
 
 -- ---- a number that is read is spelled
@@ -170,62 +170,69 @@ read_four a b c d z h k m n =
     let r : 48 + v % 10 ≡ d = omega arith in
     wide_four v (omega arith) (omega arith) ∙ rw (x, y, w, r)
 
--- a number that stands at the front of some bytes, spelled so
-pub record Found (most : ℕ) (l text : List ℕ) (value width : ℕ) : Type 0 where
-  pub front : l ≡ text ++ drop width l
+-- a number that stands at the front of some bytes, spelled so, with others behind it
+pub record Found (l text rest : List ℕ) (value most : ℕ) : Type 0 where
+  pub front : l ≡ text ++ rest
   pub small : value ≤ most
 
-module _ (most : ℕ) (l : List ℕ) where
-  abbrev Read : Number → Type 0
-  Read f = (f ≡ no_number) ⊎ Found most l (wide_field f.value) f.value f.width
+-- what is read there, as the bytes that it takes
+pub record Taken (l : List ℕ) (n : ℕ × ℕ) : Type 0 where
+  pub front : l ≡ wide_field n.0 ++ drop n.1 l
+  pub within : n.1 ≤ length l
 
-  either : {x y : Number} (t : Bool) → (t ≡ true → Read x) → (t ≡ false → Read y) → Read (cond t x y)
-  either true f g = f refl
-  either false f g = g refl
+module _ (l : List ℕ) where
+  either : (x y : Option (ℕ × ℕ)) (t : Bool) → (t ≡ true → IfSome x (Taken l)) → (t ≡ false → IfSome y (Taken l)) → IfSome (cond t x y) (Taken l)
+  either x y true f g = f refl
+  either x y false f g = g refl
 
-  fitted : (n w : ℕ) (bytes : List ℕ) → wide n ≡ bytes → get_or l 0 0 ≡ 32 → l ≡ get_or l 0 0 ∷ (bytes ++ drop w l) → Read (fit most n w)
+  taken : (n w : ℕ) (bytes : List ℕ) → wide n ≡ bytes → get_or l 0 0 ≡ 32 → l ≡ get_or l 0 0 ∷ (bytes ++ drop w l) → w ≡ 1 + length bytes → Taken l (n, w)
   unfolding wide_field
-  fitted n w bytes d s e =
-      either (leb n most)
-      (λ t. inr (record { front = e ∙ ap₂ (λ (x : ℕ) (y : List ℕ). x ∷ (y ++ drop w l)) s (sym d); small = leb-true n most t }))
-      (λ _. inl refl)
+  taken n w bytes d s e k =
+      record { front = e ∙ ap₂ (λ (x : ℕ) (y : List ℕ). x ∷ (y ++ drop w l)) s (sym d); within = omega (arith, simp length-append at (ap length e)) }
 
-  number_read : Read (number_at most l)
-  unfolding number_at number_of
-  number_read =
-      either _ (λ s.
+  pub number-taken : IfSome (number_of (get_or l 0 0) (get_or l 1 0) (get_or l 2 0) (get_or l 3 0) (get_or l 4 0)) (Taken l)
+  unfolding number_of
+  number-taken =
+      either _ _ _ (λ s.
       let p = both (eqb (get_or l 0 0) 32) (is_digit (get_or l 1 0)) s in
       let sp = eqb-true (get_or l 0 0) 32 p.0 in
       let a = digit (get_or l 1 0) p.1 in
-      either _ (λ sb.
+      either _ _ _ (λ sb.
       let b = digit (get_or l 2 0) sb in
-      either _ (λ _. inl refl) (λ n.
+      either _ _ _ (λ _. tt) (λ n.
       let o = eqb-false (get_or l 1 0) 48 n in
       let z : 48 < get_or l 1 0 = omega arith in
-      either _ (λ sc.
+      either _ _ _ (λ sc.
       let c = digit (get_or l 3 0) sc in
-      either _ (λ sd.
+      either _ _ _ (λ sd.
       let d = digit (get_or l 4 0) sd in
-      fitted _ 5 _ (read_four _ _ _ _ z a b c d) sp (front_five l (omega arith) (omega arith) (omega arith) (omega arith) (omega arith)))
-      (λ _. fitted _ 4 _ (read-three _ _ _ z a b c) sp (front_four l (omega arith) (omega arith) (omega arith) (omega arith))))
-      (λ _. fitted _ 3 _ (read-two _ _ z a b) sp (front-three l (omega arith) (omega arith) (omega arith)))))
-      (λ _. fitted _ 2 _ (read_one _ a) sp (front-two l (omega arith) (omega arith))))
-      (λ _. inl refl)
+      taken _ 5 _ (read_four _ _ _ _ z a b c d) sp (front_five l (omega arith) (omega arith) (omega arith) (omega arith) (omega arith)) refl)
+      (λ _. taken _ 4 _ (read-three _ _ _ z a b c) sp (front_four l (omega arith) (omega arith) (omega arith) (omega arith)) refl))
+      (λ _. taken _ 3 _ (read-two _ _ z a b) sp (front-three l (omega arith) (omega arith) (omega arith)) refl)))
+      (λ _. taken _ 2 _ (read_one _ a) sp (front-two l (omega arith) (omega arith)) refl))
+      (λ _. tt)
 
-pub number-only : (most : ℕ) (l : List ℕ) → 0 < (number_at most l).width → Found most l (wide_field (number_at most l).value) (number_at most l).value (number_at most l).width
-number-only most l h = go (number_read most l)
+pub number-within : (l : List ℕ) (n : ℕ × ℕ) → number_of (get_or l 0 0) (get_or l 1 0) (get_or l 2 0) (get_or l 3 0) (get_or l 4 0) ≡ Some n → n.1 ≤ length l
+number-within l n e = (subst (λ (o : Option (ℕ × ℕ)). IfSome o (Taken l)) e (number-taken l)).within
+
+pub number-only : (most : ℕ) (l : List ℕ) → IfSome {T = ℕ × List ℕ} (read_number most l) (λ x. Found l (wide_field x.0) x.1 x.0 most)
+unfolding read_number
+number-only most l = go (number_of (get_or l 0 0) (get_or l 1 0) (get_or l 2 0) (get_or l 3 0) (get_or l 4 0)) (number-taken l)
   where
-    go : Read most l (number_at most l) → Found most l (wide_field (number_at most l).value) (number_at most l).value (number_at most l).width
-    go (inl z) = let w : ⊥ = omega (arith, ap (λ (f : Number). f.width) z) in absurd w
-    go (inr f) = f
+    fits : (n : ℕ × ℕ) (t : Bool) → leb n.0 most ≡ t → Taken l n → IfSome {T = ℕ × List ℕ} (cond t (Some (n.0, drop n.1 l)) None) (λ x. Found l (wide_field x.0) x.1 x.0 most)
+    fits n true e f = record { front = f.front; small = leb-true n.0 most e }
+    fits n false e f = tt
 
-pub number_small : (most : ℕ) (l : List ℕ) → (number_at most l).value ≤ most
-number_small most l = go (number_read most l)
-  where
-    go : Read most l (number_at most l) → (number_at most l).value ≤ most
-    go (inl z) = omega (arith, ap (λ (f : Number). f.value) z)
-    go (inr f) = f.small
+    go : (o : Option (ℕ × ℕ)) → IfSome o (Taken l) → IfSome {T = ℕ × List ℕ} (option_and_then (λ n. cond (leb n.0 most) (Some (n.0, drop n.1 l)) None) o) (λ x. Found l (wide_field x.0) x.1 x.0 most)
+    go None f = tt
+    go (Some n) f = fits n (leb n.0 most) refl f
 
-pub field-only : (l : List ℕ) → 0 < (field_at l).width → Found 255 l (field (field_at l).value) (field_at l).value (field_at l).width
-unfolding field_at
-field-only l h = rw (← byte-field (number_at 255 l).value (number_small 255 l)) (number-only 255 l h)
+pub number-found : (most : ℕ) (l : List ℕ) (x : ℕ × List ℕ) → read_number most l ≡ Some x → Found l (wide_field x.0) x.1 x.0 most
+number-found most l x e = subst (λ (o : Option (ℕ × List ℕ)). IfSome {T = ℕ × List ℕ} o (λ x. Found l (wide_field x.0) x.1 x.0 most)) e (number-only most l)
+
+pub field-found : (l : List ℕ) (x : ℕ × List ℕ) → read_field l ≡ Some x → Found l (field x.0) x.1 x.0 255
+unfolding read_field
+field-found l x e = let f = number-found 255 l x e in rw (← byte-field x.0 f.small) f
+
+pub number_small : (most : ℕ) (l : List ℕ) (x : ℕ × List ℕ) → read_number most l ≡ Some x → x.0 ≤ most
+number_small most l x e = (number-found most l x e).small

@@ -1,5 +1,6 @@
 -- The code's readers have the grammars.
 -- Assumes nothing.
+use native.Mathlib.Omega.{arith}
 use Prim.Native.Nat.{ℕ, ◌<◌}
 use mathlib.Core.List.{List}
 use mathlib.Core.Logic.{◌⊎◌, inl, inr}
@@ -23,7 +24,7 @@ grammar_holds =
       known = read_known;
       once = λ c d h k e. sym (spelled_read c h) ∙ ap command_of e ∙ spelled_read d k;
       short = spell-length;
-      long = long-unknown;
+      long = λ l h. long-unknown l (omega arith);
     }
 
 -- ---- two readers that have the grammar agree on every line, so the grammar says all of `command_of`

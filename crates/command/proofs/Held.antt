@@ -1,4 +1,4 @@
--- A line that a buffer holds: fed byte by byte, and read as a command.
+-- A line that a buffer holds, fed byte by byte.
 use Prim.Native.Nat.{ℕ, suc, ◌≤◌, ◌<◌}
 use native.Mathlib.Omega.{arith}
 use native.Mathlib.Numerals.{add-one}
@@ -10,10 +10,8 @@ use lib.ListN.{length, get_or, take, drop, set, length-append, length-take, leng
 use lib.Seq.{take_all, take-nil, take_at, take-append-le, length-take-le, drop-cons, set_out, set_at}
 use borrow.Author.Tests.{lt-ltb, le-ltb, ltb-true, ltb-false}
 use Rattle.command.specs.declared.line.Line.{Line}
-use Rattle.command.specs.Model.Reading.{command_of}
-use Rattle.command.specs.Model.Line.{empty_line, fed, command_in}
+use Rattle.command.specs.Model.Line.{empty_line, fed}
 use Rattle.command.specs.Transcript.{Held}
-use Rattle.command.proofs.Lines.{long-unknown}
 
 pub held_none : (bytes : List ℕ) → Held [] bytes empty_line bytes
 held_none bytes = record { len = rw take-nil; all = rw take-nil; long = sym (le-ltb (length bytes) 0 (omega arith)) }
@@ -61,25 +59,9 @@ held_more l bytes line bytes' b h = go (ltb (length l) (length bytes)) refl
           long = sym (lt-ltb (length bytes) n (omega arith));
         })
 
--- a line that is not too long is held whole
-pub held_whole : (l bytes : List ℕ) (line : Line) (bytes' : List ℕ) → Held l bytes line bytes' → line.long ≡ false → take line.len bytes' ≡ l
-held_whole l bytes line bytes' h e =
-    ap (take line.len) h.all ∙ take_at (take (length bytes) l) (drop line.len bytes) line.len (sym h.len) ∙ take_all (length bytes) l (ltb-false (length bytes) (length l) (sym h.long ∙ e))
-
-pub held-long : (l bytes : List ℕ) (line : Line) (bytes' : List ℕ) → Held l bytes line bytes' → line.long ≡ true → length bytes < length l
-held-long l bytes line bytes' h e = ltb-true (length bytes) (length l) (sym h.long ∙ e)
-
--- what is held is no more than the buffer
-pub held_fits : (l bytes : List ℕ) (line : Line) (bytes' : List ℕ) → Held l bytes line bytes' → line.len ≤ length bytes'
-held_fits l bytes line bytes' h = omega (arith, h.len, length-take (length bytes) l, held-length l bytes line bytes' h)
-
--- the command of a line that a buffer of 64 bytes holds, or a longer one
-pub held-read : (l bytes : List ℕ) (line : Line) (bytes' : List ℕ) → 64 ≤ length bytes' → Held l bytes line bytes' → command_in line bytes' ≡ command_of l
-held-read l bytes line bytes' n h = go line.long refl
-  where
-    go : (t : Bool) → line.long ≡ t → command_in line bytes' ≡ command_of l
-    go true t = rw t (sym (long-unknown l (omega (arith, held-length l bytes line bytes' h, held-long l bytes line bytes' h t))))
-    go false t = rw (t, le-ltb (length bytes') line.len (held_fits l bytes line bytes' h), held_whole l bytes line bytes' h t)
+-- what is held is as much of the line as the buffer has room for
+pub held_front : (l bytes : List ℕ) (line : Line) (bytes' : List ℕ) → Held l bytes line bytes' → take line.len bytes' ≡ take (length bytes) l
+held_front l bytes line bytes' h = ap (take line.len) h.all ∙ take_at (take (length bytes) l) (drop line.len bytes) line.len (sym h.len)
 
 -- whether a line has a byte
 pub held-some : (l bytes : List ℕ) (line : Line) (bytes' : List ℕ) → Held l bytes line bytes' → (ltb 0 line.len || line.long) ≡ ltb 0 (length l)

@@ -1,6 +1,5 @@
 -- Exactly the spelled lines are commands (Grammar); laws that the functions' proofs cite (the others).
 pub mod Laws
-pub mod Read
 pub mod Listed
 pub mod Put
 pub mod Digits

@@ -6,80 +6,77 @@ use native.Mathlib.Omega.{arith}
 use mathlib.Core.Bool.{Bool, true, false, cond}
 use mathlib.Core.Path.{◌≡◌, refl, sym, ap, ◌∙◌}
 use mathlib.Core.List.{List, [], ◌∷◌, ◌++◌, append_assoc}
-use lib.Dec.{leb, ltb}
-use lib.ListN.{length, take, drop, set, length-append, length-drop}
-use lib.Seq.{drop-cons, drop-drop, set-append_seam, take-append_seam}
-use borrow.Author.Tests.{lt-ltb, le-ltb, le-leb, lt-leb, ltb-true, ltb-false, leb-true, leb-false}
-use Rattle.command.specs.declared.reading.Field.{Field}
-use Rattle.command.specs.declared.request.Fields.{Fields}
-use Rattle.command.specs.Request.{Ask, over}
-use Rattle.command.specs.Model.Reading.{field_at}
-use Rattle.command.specs.Model.Request.{values, left, listed, calls_in, script_from, script_line, turns_from, turns_line}
+use lib.ListN.{length, take, set, length-append}
+use lib.Seq.{drop-cons, set-append_seam, take-append_seam}
+use Rattle.std.proofs.Common.{Option, Some, None}
+use Rattle.std.specs.Option.{IfSome, option_map}
+use Rattle.command.specs.Request.{over}
+use Rattle.command.proofs.Laws.{at_end}
+use Rattle.command.specs.Model.Reading.{ended, number_of, read_number, read_field}
+use Rattle.command.specs.Model.Request.{before, values, left, listed}
 
 -- ---- a field more at the front, or none
 
-pub values_more : (n : ℕ) (l : List ℕ) → 0 < (field_at l).width → values (suc n) l ≡ (field_at l).value ∷ values n (drop (field_at l).width l)
+pub values_more : (n : ℕ) (l : List ℕ) (x : ℕ × List ℕ) → read_field l ≡ Some x → values (suc n) l ≡ x.0 ∷ values n x.1
 unfolding values
-values_more n l h = rw (lt-ltb 0 (field_at l).width h)
+values_more n l x e = rw e
 
-pub left_more : (n : ℕ) (l : List ℕ) → 0 < (field_at l).width → left (suc n) l ≡ left n (drop (field_at l).width l)
+pub left_more : (n : ℕ) (l : List ℕ) (x : ℕ × List ℕ) → read_field l ≡ Some x → left (suc n) l ≡ left n x.1
 unfolding left
-left_more n l h = rw (lt-ltb 0 (field_at l).width h)
+left_more n l x e = rw e
 
-pub values-none : (n : ℕ) (l : List ℕ) → (field_at l).width ≤ 0 → values n l ≡ []
+pub values-none : (n : ℕ) (l : List ℕ) → read_field l ≡ None → values n l ≡ []
 unfolding values
-values-none zero l h = refl
-values-none (suc n) l h = rw (le-ltb 0 (field_at l).width h)
+values-none zero l e = refl
+values-none (suc n) l e = rw e
 
-pub left-none : (n : ℕ) (l : List ℕ) → (field_at l).width ≤ 0 → left n l ≡ l
+pub left-none : (n : ℕ) (l : List ℕ) → read_field l ≡ None → left n l ≡ l
 unfolding left
-left-none zero l h = refl
-left-none (suc n) l h = rw (le-ltb 0 (field_at l).width h)
+left-none zero l e = refl
+left-none (suc n) l e = rw e
+
+-- none at the end
+pub none_left : read_field [] ≡ None
+unfolding read_field read_number number_of
+none_left = refl
 
 -- ---- a field more at the end, or none
 
-pub record Next (i : ℕ) (l : List ℕ) : Type 0 where
-  pub more : values (i + 1) l ≡ values i l ++ ((field_at (left i l)).value ∷ [])
-  pub behind : left (i + 1) l ≡ drop (field_at (left i l)).width (left i l)
+record Next (i : ℕ) (l : List ℕ) (x : ℕ × List ℕ) : Type 0 where
+  pub more : values (i + 1) l ≡ values i l ++ (x.0 ∷ [])
+  pub behind : left (i + 1) l ≡ x.1
 
-pub next : (i : ℕ) (l : List ℕ) → 0 < (field_at (left i l)).width → Next i l
+next : (i : ℕ) (l : List ℕ) (x : ℕ × List ℕ) → read_field (left i l) ≡ Some x → Next i l x
 unfolding values left
-next zero l h = record { more = values_more zero l h; behind = left_more zero l h }
-next (suc i) l h = go (ltb 0 (field_at l).width) refl (next i (drop (field_at l).width l))
+next zero l x e = record { more = values_more zero l x e; behind = left_more zero l x e }
+next (suc i) l x e = go (read_field l) refl (λ y. next i y.1 x)
   where
-    go : (t : Bool) → ltb 0 (field_at l).width ≡ t → (0 < (field_at (left i (drop (field_at l).width l))).width → Next i (drop (field_at l).width l)) → Next (suc i) l
-    go false e r = let n = left-none (suc i) l (ltb-false 0 (field_at l).width e) in let w : ⊥ = omega (arith, ltb-false 0 (field_at l).width e, rw n at h) in absurd w
-    go true e r =
-        let p = ltb-true 0 (field_at l).width e in
-        let b = left_more i l p in
-        let x = r (rw b at h) in
-        let a : i + 1 ≡ suc i = add-one i in
-        let m : values (suc i) (drop (field_at l).width l) ≡ values i (drop (field_at l).width l) ++ ((field_at (left i (drop (field_at l).width l))).value ∷ []) = rw a at x.more in
-        let d : left (suc i) (drop (field_at l).width l) ≡ drop (field_at (left i (drop (field_at l).width l))).width (left i (drop (field_at l).width l)) = rw a at x.behind in
+    go : (o : Option (ℕ × List ℕ)) → read_field l ≡ o → ((y : ℕ × List ℕ) → read_field (left i y.1) ≡ Some x → Next i y.1 x) → Next (suc i) l x
+    go None f r = let z : None ≡ Some x = sym f ∙ rw (left-none (suc i) l f) at e in absurd (cc)
+    go (Some y) f r =
+        let b = left_more i l y f in
+        let n = r y (rw b at e) in
         record {
-          more = rw (add-one, values_more (suc i) l p, values_more i l p, b, m);
-          behind = rw (add-one, left_more (suc i) l p, b, d);
+          more = rw (add-one, values_more (suc i) l y f, values_more i l y f) (ap (λ (v : List ℕ). y.0 ∷ v) (rw add-one at n.more));
+          behind = rw (add-one, left_more (suc i) l y f) (rw add-one at n.behind);
         }
 
-pub record Last (i n : ℕ) (l : List ℕ) : Type 0 where
+record Last (i n : ℕ) (l : List ℕ) : Type 0 where
   pub all : values n l ≡ values i l
   pub end : left n l ≡ left i l
 
-pub last : (i n : ℕ) (l : List ℕ) → i ≤ n → (field_at (left i l)).width ≤ 0 → Last i n l
+last : (i n : ℕ) (l : List ℕ) → i ≤ n → read_field (left i l) ≡ None → Last i n l
 unfolding values left
 last zero n l h k = record { all = values-none n l k; end = left-none n l k }
 last (suc i) zero l h k = let w : ⊥ = omega arith in absurd w
-last (suc i) (suc n) l h k = go (ltb 0 (field_at l).width) refl (last i n (drop (field_at l).width l) (omega arith))
+last (suc i) (suc n) l h k = go (read_field l) refl (λ y. last i n y.1 (omega arith))
   where
-    go : (t : Bool) → ltb 0 (field_at l).width ≡ t → ((field_at (left i (drop (field_at l).width l))).width ≤ 0 → Last i n (drop (field_at l).width l)) → Last (suc i) (suc n) l
-    go false e r =
-        let z = ltb-false 0 (field_at l).width e in
-        record { all = values-none (suc n) l z ∙ sym (values-none (suc i) l z); end = left-none (suc n) l z ∙ sym (left-none (suc i) l z) }
-    go true e r =
-        let p = ltb-true 0 (field_at l).width e in
-        let b = left_more i l p in
-        let x = r (rw b at k) in
-        record { all = rw (values_more n l p, values_more i l p, x.all); end = rw (left_more n l p, b, x.end) }
+    go : (o : Option (ℕ × List ℕ)) → read_field l ≡ o → ((y : ℕ × List ℕ) → read_field (left i y.1) ≡ None → Last i n y.1) → Last (suc i) (suc n) l
+    go None f r = record { all = values-none (suc n) l f ∙ sym (values-none (suc i) l f); end = left-none (suc n) l f ∙ sym (left-none (suc i) l f) }
+    go (Some y) f r =
+        let b = left_more i l y f in
+        let m = r y (rw b at k) in
+        record { all = rw (values_more n l y f, values_more i l y f, m.all); end = rw (left_more n l y f, b, m.end) }
 
 -- ---- the buffer
 
@@ -90,89 +87,62 @@ over-next b x v i n h =
     let e : length (x ++ (v ∷ [])) ≡ suc (length x) = simp length-append (omega arith) in
     rw (← n, drop-cons b (length x) 0 h', set-append_seam, e, append_assoc)
 
--- the position is at or behind the line's end exactly where nothing is left
-pub at-end : (s : List ℕ) (i : ℕ) → leb (length s) i ≡ leb (length (drop i s)) 0
-at-end s i = go (leb (length s) i) refl
-  where
-    go : (t : Bool) → leb (length s) i ≡ t → leb (length s) i ≡ leb (length (drop i s)) 0
-    go true e = e ∙ sym (le-leb (length (drop i s)) 0 (omega (arith, length-drop i s, leb-true (length s) i e)))
-    go false e = e ∙ sym (lt-leb (length (drop i s)) 0 (omega (arith, length-drop i s, leb-false (length s) i e)))
+-- ---- the loop: the numbers of the first fields of a line are at the front of the buffer b, and what is left is s
 
--- ---- the loop: after so many fields of what stands from `at` on, their numbers are at the front of the buffer b, and what is left starts at `end`
+pub record Row (l b x : List ℕ) (count : ℕ) (s : List ℕ) : Type 0 where
+  pub many : length (values count l) ≡ count
+  pub rest : s ≡ left count l
+  pub front : x ≡ over b (values count l)
 
-pub record Row (s : List ℕ) (at : ℕ) (b x : List ℕ) (count end : ℕ) : Type 0 where
-  pub many : length (values count (drop at s)) ≡ count
-  pub rest : drop end s ≡ left count (drop at s)
-  pub front : x ≡ over b (values count (drop at s))
-
-pub row-none : (s : List ℕ) (at : ℕ) (b : List ℕ) → Row s at b b 0 at
+pub row-none : (l b : List ℕ) → Row l b b 0 l
 unfolding values left
-row-none s at b = record { many = refl; rest = refl; front = refl }
-
-module _ (s : List ℕ) (at : ℕ) (b x : List ℕ) (count end : ℕ) (r : Row s at b x count end) where
-  pub row_next : (f : Field) → f ≡ field_at (drop end s) → 0 < f.width → count < length b → Row s at b (set x count f.value) (count + 1) (end + f.width)
-  row_next f e h k =
-      let g : f ≡ field_at (left count (drop at s)) = e ∙ ap field_at r.rest in
-      let n = next count (drop at s) (rw g at h) in
-      let m : values (count + 1) (drop at s) ≡ values count (drop at s) ++ (f.value ∷ []) = rw g n.more in
-      let c = r.many in
-      record {
-        many = ap length m ∙ simp length-append (omega arith);
-        rest = sym (drop-drop f.width end s) ∙ rw (r.rest, g) (sym n.behind);
-        front = rw (r.front, m) (over-next b (values count (drop at s)) f.value count c k);
-      }
-
-  pub row-all : (i : ℕ) → values i (drop at s) ≡ values count (drop at s) → left i (drop at s) ≡ left count (drop at s) → i ≡ 1024
-      → (record { count = count; whole = leb (length s) end } ≡ listed (drop at s)) × (x ≡ over b (values 1024 (drop at s)))
-  unfolding listed
-  row-all i v l e =
-      let v' : values 1024 (drop at s) ≡ values count (drop at s) = rw e at v in
-      let l' : left 1024 (drop at s) ≡ left count (drop at s) = rw e at l in
-      (rw (v', l', r.many, ← r.rest, at-end s end), r.front ∙ rw v')
-
-  pub row-stop : (f : Field) → f ≡ field_at (drop end s) → f.width ≡ 0 → count ≤ 1024
-      → (record { count = count; whole = leb (length s) end } ≡ listed (drop at s)) × (x ≡ over b (values 1024 (drop at s)))
-  row-stop f e z k =
-      let g : f ≡ field_at (left count (drop at s)) = e ∙ ap field_at r.rest in
-      let z' : f.width ≤ 0 = omega arith in
-      let n = last count 1024 (drop at s) k (rw g at z') in
-      row-all 1024 n.all n.end refl
-
-  pub row-full : count ≡ 1024 → (record { count = count; whole = leb (length s) end } ≡ listed (drop at s)) × (x ≡ over b (values 1024 (drop at s)))
-  row-full e = row-all count refl refl e
-
--- ---- a line with a list of numbers, as it is read
+row-none l b = record { many = refl; rest = refl; front = refl }
 
 values_few : (n : ℕ) (l : List ℕ) → length (values n l) ≤ n
 unfolding values
 values_few zero l = omega arith
-values_few (suc n) l = go (ltb 0 (field_at l).width) (values_few n (drop (field_at l).width l))
+values_few (suc n) l = go (read_field l) (λ m. values_few n m)
   where
-    go : (t : Bool) → length (values n (drop (field_at l).width l)) ≤ n → length (cond t ((field_at l).value ∷ values n (drop (field_at l).width l)) []) ≤ suc n
-    go true h = omega arith
-    go false h = omega arith
+    go : (o : Option (ℕ × List ℕ)) → ((m : List ℕ) → length (values n m) ≤ n) → length (before (option_map (λ f. (f.0, values n f.1)) o)) ≤ suc n
+    go None r = omega arith
+    go (Some y) r = omega (arith, r y.1)
 
--- the numbers are the buffer's front, and fewer than it holds
-record Taken (l x : List ℕ) (f : Fields) : Type 0 where
-  pub front : take f.count x ≡ values 1024 l
-  pub few : f.count ≤ 1024
+-- what the loop answers where nothing more is read
+pub record Done (l b x : List ℕ) (o : Option ℕ) : Type 0 where
+  pub value : o ≡ listed l
+  pub numbers_after : x ≡ over b (values 1024 l)
+  pub listed : IfSome o (λ n. (take n x ≡ values 1024 l) × (n ≤ 1024))
 
-taken : (l b x : List ℕ) (f : Fields) → f ≡ listed l → x ≡ over b (values 1024 l) → Taken l x f
+done : (l b x : List ℕ) (o : Option ℕ) → o ≡ listed l → x ≡ over b (values 1024 l) → Done l b x o
 unfolding listed
-taken l b x f e h = rw e (record { front = rw (h, take-append_seam); few = values_few 1024 l })
+done l b x o e h = record { value = e; numbers_after = h; listed = go o (ended (left 1024 l)) e }
+  where
+    go : (o : Option ℕ) (t : Bool) → o ≡ cond t (Some (length (values 1024 l))) None → IfSome o (λ n. (take n x ≡ values 1024 l) × (n ≤ 1024))
+    go None t e = tt
+    go (Some n) true e = let k : n ≡ length (values 1024 l) = cc in (rw (k, h, take-append_seam), omega (arith, values_few 1024 l))
+    go (Some n) false e = absurd (cc)
 
-pub record Answered (a line : Ask) (b x ns : List ℕ) (f : Fields) : Type 0 where
-  pub read : a ≡ line
-  pub buffer : x ≡ over b ns
-  pub few : f.count ≤ 1024
+module _ (l b x : List ℕ) (count : ℕ) (s : List ℕ) (r : Row l b x count s) where
+  pub row_next : (y : ℕ × List ℕ) → read_field s ≡ Some y → count < length b → Row l b (set x count y.0) (count + 1) y.1
+  row_next y e k =
+      let n = next count l y (rw r.rest at e) in
+      let c = r.many in
+      record { many = ap length n.more ∙ simp length-append (omega arith); rest = sym n.behind; front = rw (r.front, n.more) (over-next b (values count l) y.0 count c k) }
 
-pub script-read : (s b x : List ℕ) (k : Field) (f : Fields) → k ≡ field_at (drop 6 s) → f ≡ listed (drop (6 + k.width) s) → x ≡ over b (values 1024 (drop (6 + k.width) s))
-    → Answered (script_from k f (take f.count x)) (script_line s) b x (values 1024 (calls_in s)) f
-unfolding script_line calls_in
-script-read s b x k f ek ef ex =
-    let t = taken (drop (6 + k.width) s) b x f ef ex in
-    record { read = rw (t.front, ← ek, ← ef); buffer = rw (← ek) ex; few = t.few }
+  row-all : (o : Option ℕ) → o ≡ cond (ended s) (Some count) None → Last count 1024 l → Done l b x o
+  unfolding listed
+  row-all o e n = done l b x o (e ∙ rw (n.all, n.end, r.many, r.rest)) (rw n.all r.front)
 
-pub turns-read : (s b x : List ℕ) (f : Fields) → f ≡ listed (drop 5 s) → x ≡ over b (values 1024 (drop 5 s)) → Answered (turns_from f (take f.count x)) (turns_line s) b x (values 1024 (drop 5 s)) f
-unfolding turns_line
-turns-read s b x f ef ex = let t = taken (drop 5 s) b x f ef ex in record { read = rw (t.front, ← ef); buffer = ex; few = t.few }
+  -- at the line's end,
+  pub row-end : ended s ≡ true → count ≤ 1024 → Done l b x (Some count)
+  row-end z k =
+      let e : s ≡ [] = at_end s z in
+      row-all (Some count) (rw z) (last count 1024 l k (sym (ap read_field r.rest) ∙ ap read_field e ∙ none_left))
+
+  -- where something else stands,
+  pub row-stop : ended s ≡ false → read_field s ≡ None → count ≤ 1024 → Done l b x None
+  row-stop z e k = row-all None (rw z) (last count 1024 l k (rw r.rest at e))
+
+  -- and after all that the buffer has room for
+  pub row-full : (o : Option ℕ) → o ≡ cond (ended s) (Some count) None → count ≡ 1024 → Done l b x o
+  row-full o h e = row-all o h (record { all = rw e; end = rw e })

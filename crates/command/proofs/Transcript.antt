@@ -2,19 +2,19 @@
 -- Assumes nothing.
 use Prim.Native.Nat.{ℕ, ◌+◌, ◌-◌, ◌≤◌, ◌<◌, min}
 use native.Mathlib.Omega.{arith}
-use mathlib.Core.Bool.{Bool, true, false, not, ◌&&◌, false≢true}
+use mathlib.Core.Bool.{Bool, true, false, false≢true}
 use mathlib.Core.Logic.{◌⊎◌, inl, inr}
 use mathlib.Core.Path.{◌≡◌, refl, sym, ap, subst, ◌∙◌}
 use mathlib.Core.List.{List, [], ◌∷◌, ◌++◌, append-nil, append_assoc}
 use lib.ListN.{length, take}
 use lib.Seq.{take-paste, take-length}
-use borrow.Author.Tests.{ne_eqb, lt-ltb, not-true}
+use borrow.Author.Tests.{ne_eqb, lt-ltb}
 use Rattle.command.specs.declared.input.Input.{Input}
 use Rattle.command.specs.declared.input.NextLine.{NextLine}
 use Rattle.command.specs.Printing.{Buffer, buffer_of, add}
-use Rattle.command.specs.Transcript.{Unbroken, whole_line, counts, Held, left_of, Reads, no_read, one_more_read, Next, Program, text_for, output_from, output, Transcript, Turn, Lines, no_line, one_more_line, Run}
-use Rattle.command.proofs.Laws.{both}
+use Rattle.command.specs.Transcript.{Unbroken, whole_line, counts, left_of, Reads, no_read, one_more_read, Next, Program, text_for, output_from, output, Transcript, Turn, Lines, no_line, one_more_line, Run}
 use Rattle.command.proofs.Put.{add-length, add-len}
+use Rattle.command.proofs.Held.{held_front}
 
 -- ---- lines
 
@@ -61,93 +61,72 @@ reads-join a b c n m x y r (one_more_read i w last piece s) =
 -- ---- a turn
 
 -- a text that is put at the front of a buffer which has room for it is there whole
-pub printed : (out out' x : List ℕ) (n : ℕ) → buffer_of out' n ≡ add (buffer_of out 0) x → length x ≤ length out → take n out' ≡ x
+printed : (out out' x : List ℕ) (n : ℕ) → buffer_of out' n ≡ add (buffer_of out 0) x → length x ≤ length out → (n ≤ length out') × (take n out' ≡ x)
 unfolding add
 printed out out' x n e h =
     let m : min (length x) (length out - 0) ≡ length x = omega arith in
-    ap (λ (b : Buffer). take b.len b.bytes) e ∙ rw m (take-paste out 0 x (length x) (omega arith) (omega arith) ∙ take-length x)
-
-pub printed-fits : (out out' x : List ℕ) (n : ℕ) → buffer_of out' n ≡ add (buffer_of out 0) x → length x ≤ length out → n ≤ length out'
-printed-fits out out' x n e h =
     let l = ap (λ (b : Buffer). length b.bytes) e ∙ add-length (buffer_of out 0) x in
     let k = ap (λ (b : Buffer). b.len) e ∙ add-len (buffer_of out 0) x (omega arith) in
-    omega arith
+    (omega arith, ap (λ (b : Buffer). take b.len b.bytes) e ∙ rw m (take-paste out 0 x (length x) (omega arith) (omega arith) ∙ take-length x))
 
--- a line that counts, and one that does not
-pub turn-answered : (p : Program) (k k' : p.Context) (input : Input) (chunk bytes : List ℕ) (r : NextLine) (chunk' bytes' text : List ℕ) → Next input chunk bytes r chunk' bytes' → r.counts ≡ true
-    → ((l : List ℕ) → Held l bytes r.line bytes' → (text ≡ p.response l k) × (k' ≡ p.after l k)) → Turn p input chunk k r.input chunk' k' text r.ended
-turn-answered p k k' input chunk bytes r chunk' bytes' text n e f =
-    let c : counts r.ended n.line ≡ true = sym n.some ∙ e in
-    record { line = n.line; consumed = n.consumed; all = rw c (f n.line n.held).0; context = rw c (f n.line n.held).1 }
+pub text_fits : (out out' x : List ℕ) (n : ℕ) → length x ≤ length out → buffer_of out' n ≡ add (buffer_of out 0) x → n ≤ length out'
+text_fits out out' x n h e = (printed out out' x n e h).0
 
-pub turn-none : (p : Program) (k : p.Context) (input : Input) (chunk bytes : List ℕ) (r : NextLine) (chunk' bytes' : List ℕ) → Next input chunk bytes r chunk' bytes' → r.counts ≡ false
+-- a line that counts
+pub turn_answered : (p : Program) (k k' : p.Context) (input : Input) (chunk bytes : List ℕ) (r : NextLine) (chunk' bytes' out out' : List ℕ) (n : ℕ)
+    → ((l : List ℕ) (q : p.Context) → length (p.response l q) ≤ length out)
+    → ((l : List ℕ) (q : p.Context) → (p.response (take (length bytes) l) q ≡ p.response l q) × (p.after (take (length bytes) l) q ≡ p.after l q))
+    → Next input chunk bytes r chunk' bytes' → r.counts ≡ true → buffer_of out' n ≡ add (buffer_of out 0) (p.response (take r.line.len bytes') k)
+    → k' ≡ p.after (take r.line.len bytes') k → Turn p input chunk k r.input chunk' k' (take n out') r.ended
+turn_answered p k k' input chunk bytes r chunk' bytes' out out' n fits seen t s e a =
+    let c : counts r.ended t.line ≡ true = sym t.some ∙ s in
+    let w = held_front t.line bytes r.line bytes' t.held in
+    let d = seen t.line k in
+    record {
+      line = t.line;
+      consumed = t.consumed;
+      all = rw c ((printed out out' _ n e (fits (take r.line.len bytes') k)).1 ∙ ap (λ (l : List ℕ). p.response l k) w ∙ d.0);
+      context = rw c (a ∙ ap (λ (l : List ℕ). p.after l k) w ∙ d.1);
+    }
+
+-- one that does not
+pub turn_none : (p : Program) (k : p.Context) (input : Input) (chunk bytes : List ℕ) (r : NextLine) (chunk' bytes' : List ℕ) → Next input chunk bytes r chunk' bytes' → r.counts ≡ false
     → Turn p input chunk k r.input chunk' k [] r.ended
-turn-none p k input chunk bytes r chunk' bytes' n e =
+turn_none p k input chunk bytes r chunk' bytes' n e =
     let c : counts r.ended n.line ≡ false = sym n.some ∙ e in
     record { line = n.line; consumed = n.consumed; all = rw c; context = rw c }
 
 -- ---- the loop of a program
 
--- between turns: what the program holds, k, what is left of the last read, how many turns there may be, and whether there is to be another
-pub record SoFar (p : Program) (first k : p.Context) (rest : Input) (chunk : List ℕ) (left : ℕ) (go : Bool) : Type 0 where
+-- after `count` turns: what the program holds, k, what is left of the last read, and whether the input has ended and the last text was written
+pub record SoFar (p : Program) (first k : p.Context) (rest : Input) (chunk : List ℕ) (count : ℕ) (ended ok : Bool) : Type 0 where
   pub reads : ℕ
   pub input : List ℕ
   pub brought : Reads [] reads input (take rest.end chunk)
-  pub count : ℕ
   pub consumed : List ℕ
   pub texts : List ℕ
-  pub ended : Bool
-  pub ok : Bool
   pub lines : Lines p first count consumed texts k ended ok
   pub cut : input ≡ consumed ++ left_of rest chunk
   pub end : ended ≡ true → (left_of rest chunk ≡ []) × (((0 < reads) × (take rest.end chunk ≡ [])) ⊎ (18446744073709551615 ≤ reads))
-  pub counted : count + left ≡ 18446744073709551615
-  pub going : go ≡ (ok && not ended)
 
-pub nothing_read : (p : Program) (first k : p.Context) (rest : Input) (chunk : List ℕ) → k ≡ first → rest ≡ record { at = 0; end = 0 } → SoFar p first k rest chunk 18446744073709551615 true
-nothing_read p first k rest chunk e z =
-    rw (e, z) (record {
-      reads = 0;
-      input = [];
-      brought = no_read;
-      count = 0;
-      consumed = [];
-      texts = [];
-      ended = false;
-      ok = true;
-      lines = no_line;
-      cut = refl;
-      end = λ w. absurd (false≢true w);
-      counted = refl;
-      going = refl;
-    })
+pub nothing_read : (p : Program) (first : p.Context) (rest : Input) (chunk : List ℕ) → rest ≡ record { at = 0; end = 0 } → SoFar p first first rest chunk 0 false true
+nothing_read p first rest chunk z =
+    rw z (record { reads = 0; input = []; brought = no_read; consumed = []; texts = []; lines = no_line; cut = refl; end = λ w. absurd (false≢true w) })
 
-not-both : (a b : Bool) → (a && not b) ≡ false → (a ≡ false) ⊎ (b ≡ true)
-not-both true true e = inr refl
-not-both true false e = absurd (false≢true (sym e))
-not-both false b e = inl refl
-
-pub turn-taken : (p : Program) (first k k' : p.Context) (rest rest' : Input) (chunk chunk' text : List ℕ) (left : ℕ) (go ended ok : Bool) → SoFar p first k rest chunk left go
-    → go ≡ true → 0 < left → Turn p rest chunk k rest' chunk' k' text ended → SoFar p first k' rest' chunk' (left - 1) (ok && not ended)
-turn-taken p first k k' rest rest' chunk chunk' text left go ended ok s g h t =
+pub turn_taken : (p : Program) (first k k' : p.Context) (rest rest' : Input) (chunk chunk' text : List ℕ) (count : ℕ) (ended ok : Bool) → SoFar p first k rest chunk count false true
+    → Turn p rest chunk k rest' chunk' k' text ended → SoFar p first k' rest' chunk' (count + 1) ended ok
+turn_taken p first k k' rest rest' chunk chunk' text count ended ok s t =
     let c = t.consumed in
-    let b = both s.ok (not s.ended) (sym s.going ∙ g) in
-    let q : Lines p first s.count s.consumed s.texts k false true = rw (b.0, not-true s.ended b.1) at s.lines in
     record {
       reads = s.reads + c.count;
       input = s.input ++ c.brought;
       brought = reads-join [] (take rest.end chunk) (take rest'.end chunk') s.reads c.count s.input c.brought s.brought c.reads;
-      count = s.count + 1;
       consumed = s.consumed ++ whole_line ended t.line;
       texts = s.texts ++ text_for p ended t.line k;
-      ended = ended;
-      ok = ok;
-      lines = subst (λ (x : p.Context). Lines p first (s.count + 1) (s.consumed ++ whole_line ended t.line) (s.texts ++ text_for p ended t.line k) x ended ok) (sym t.context) (one_more_line s.count s.consumed s.texts t.line k ended ok q c.unbroken);
+      lines = subst (λ (x : p.Context). Lines p first (count + 1) (s.consumed ++ whole_line ended t.line) (s.texts ++ text_for p ended t.line k) x ended ok) (sym t.context) (one_more_line count s.consumed s.texts t.line k ended ok s.lines c.unbroken);
       cut = ap (λ (x : List ℕ). x ++ c.brought) s.cut ∙ append_assoc s.consumed (left_of rest chunk) c.brought ∙ ap (λ (x : List ℕ). s.consumed ++ x) c.cut
           ∙ sym (append_assoc s.consumed (whole_line ended t.line) (left_of rest' chunk'));
       end = λ e. (c.none_left e, over (c.stop e));
-      counted = omega (arith, s.counted);
-      going = refl;
     }
   where
     over : ((0 < t.consumed.count) × (take rest'.end chunk' ≡ [])) ⊎ (t.consumed.count ≡ 18446744073709551615)
@@ -155,35 +134,34 @@ turn-taken p first k k' rest rest' chunk chunk' text left go ended ok s g h t =
     over (inl w) = inl (omega (arith, w.0), w.1)
     over (inr w) = inr (omega arith)
 
-pub run-over : (p : Program) (first k : p.Context) (rest : Input) (chunk : List ℕ) (left : ℕ) (go : Bool) → SoFar p first k rest chunk left go → (go ≡ false) ⊎ (left ≤ 0) → Run p first
-run-over p first k rest chunk left go s w =
+pub run_over : (p : Program) (first k : p.Context) (rest : Input) (chunk : List ℕ) (count : ℕ) (ended ok : Bool) → SoFar p first k rest chunk count ended ok
+    → (ok ≡ false) ⊎ ((ended ≡ true) ⊎ (18446744073709551615 ≤ count)) → Run p first
+run_over p first k rest chunk count ended ok s w =
     record {
       reads = s.reads;
       input = s.input;
       last = take rest.end chunk;
       brought = s.brought;
-      count = s.count;
+      count = count;
       consumed = s.consumed;
       texts = s.texts;
       context = k;
-      ended = s.ended;
-      ok = s.ok;
+      ended = ended;
+      ok = ok;
       lines = s.lines;
       unread = left_of rest chunk;
       cut = s.cut;
-      stop = stops w;
-      all = (lines-output p first s.count s.consumed s.texts k s.ended s.ok s.lines).1;
+      stop = why w;
+      all = (lines-output p first count s.consumed s.texts k ended ok s.lines).1;
     }
   where
     at-end : (left_of rest chunk ≡ []) × (((0 < s.reads) × (take rest.end chunk ≡ [])) ⊎ (18446744073709551615 ≤ s.reads))
-        → ((0 < s.reads) × (take rest.end chunk ≡ []) × (left_of rest chunk ≡ [])) ⊎ ((s.ok ≡ false) ⊎ (18446744073709551615 ≤ s.count + s.reads))
+        → ((0 < s.reads) × (take rest.end chunk ≡ []) × (left_of rest chunk ≡ [])) ⊎ ((ok ≡ false) ⊎ (18446744073709551615 ≤ count + s.reads))
     at-end (e, inl z) = inl (z.0, z.1, e)
     at-end (e, inr z) = inr (inr (omega arith))
 
-    why : (s.ok ≡ false) ⊎ (s.ended ≡ true) → ((0 < s.reads) × (take rest.end chunk ≡ []) × (left_of rest chunk ≡ [])) ⊎ ((s.ok ≡ false) ⊎ (18446744073709551615 ≤ s.count + s.reads))
+    why : (ok ≡ false) ⊎ ((ended ≡ true) ⊎ (18446744073709551615 ≤ count))
+        → ((0 < s.reads) × (take rest.end chunk ≡ []) × (left_of rest chunk ≡ [])) ⊎ ((ok ≡ false) ⊎ (18446744073709551615 ≤ count + s.reads))
     why (inl e) = inr (inl e)
-    why (inr e) = at-end (s.end e)
-
-    stops : (go ≡ false) ⊎ (left ≤ 0) → ((0 < s.reads) × (take rest.end chunk ≡ []) × (left_of rest chunk ≡ [])) ⊎ ((s.ok ≡ false) ⊎ (18446744073709551615 ≤ s.count + s.reads))
-    stops (inl g) = why (not-both s.ok s.ended (sym s.going ∙ g))
-    stops (inr z) = inr (inr (omega (arith, s.counted)))
+    why (inr (inl e)) = at-end (s.end e)
+    why (inr (inr e)) = inr (inr (omega arith))

@@ -1,19 +1,22 @@
 // Bytes that are written in lower-case hexadecimal digits, two a byte, as they are read.
-ghost use Rattle.std.specs.Prelude.{◌+◌, ◌-◌, ◌*◌, ◌≤◌, ◌≡◌, length, drop};
+ghost use Rattle.std.specs.Prelude.{◌+◌, ◌*◌, ◌≤◌, ◌<◌, ◌≡◌, IfSome, length};
 ghost use Rattle.command.specs.Request.{over};
-ghost use Rattle.command.specs.Model.Hex.{hex_worth, pairs, hex_bytes};
+ghost use Rattle.command.specs.Model.Hex.{hex_worth, pairs, hex_bytes, counted, bytes_of};
+ghost use Rattle.command.specs.Model.Reading.{shown};
 
-// What a digit is worth, 16 for any other byte.
-fn worth(b: u8) -> u8
-    ensures { result ≡ hex_worth b }
+use crate::reading::after;
+
+// What a digit is worth.
+#[tactic(auto, unfolding(crate::specs::Model::Hex::hex_worth))]
+fn worth(b: u8) -> Option<u8>
+    ensures value { result ≡ hex_worth b }
+    ensures bound { IfSome result (λ d. d < 16) }
 {
-    if (b'0' <= b) & (b <= b'9') {
-        return b - b'0';
+    match b {
+        b'0'..=b'9' => Some(b - b'0'),
+        b'a'..=b'f' => Some(b - b'a' + 10),
+        _ => None,
     }
-    if (b'a' <= b) & (b <= b'f') {
-        return b - b'a' + 10;
-    }
-    16
 }
 
 // The bytes that pairs of digits at the front show, put at the buffer's front: how many.
@@ -23,35 +26,30 @@ fn pairs(s: &[u8], numbers: &mut [u8]) -> usize
     ensures numbers_after { numbers.new ≡ over numbers.old (pairs s.now) }
 {
     let most = s.len() / 2;
-    let mut n = 0;
-    while n < most {
-        let high = worth(s[2 * n]);
-        let low = worth(s[2 * n + 1]);
-        if 15 < high {
+    for n in 0..most {
+        let Some(high) = worth(s[2 * n]) else {
             return n;
-        }
-        if 15 < low {
+        };
+        let Some(low) = worth(s[2 * n + 1]) else {
             return n;
-        }
+        };
         numbers[n] = 16 * high + low;
-        n += 1;
     }
-    n
+    most
 }
 
-// The same after a space, which stands at `at`.
-pub(crate) fn hex_bytes(s: &[u8], at: usize, numbers: &mut [u8]) -> usize
-    requires { length s.now ≤ 2 * length numbers.old + at }
-    ensures value { result ≡ length (hex_bytes (drop at s.now)) }
-    ensures numbers_after { numbers.new ≡ over numbers.old (hex_bytes (drop at s.now)) }
-    ensures result_in_bounds { 2 * result ≤ length s.now - at }
+// The same after a space, if there is a byte: how many, and what is behind them.
+#[tactic(auto, using(crate::proofs::Digits::pairs_few), unfolding(crate::specs::Model::Hex::hex_bytes))]
+pub(crate) fn hex_bytes<'a>(s: &'a [u8], numbers: &mut [u8]) -> Option<(usize, &'a [u8])>
+    requires { length s.now ≤ 2 * length numbers.old + 2 }
+    ensures value { shown result ≡ counted (hex_bytes s.now) }
+    ensures numbers_after { numbers.new ≡ over numbers.old (bytes_of (hex_bytes s.now)) }
+    ensures bound { IfSome result (λ x. 2 * x.0 + length x.1.now < length s.now) }
 {
-    if s.len() <= at {
-        return 0;
+    let s = after(b" ", s)?;
+    let n = pairs(s, numbers);
+    if n == 0 {
+        return None;
     }
-    if s[at] != b' ' {
-        return 0;
-    }
-    let from = at + 1;
-    pairs(&s[from..], numbers)
+    Some((n, &s[2 * n..]))
 }

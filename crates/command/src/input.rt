@@ -44,14 +44,12 @@ fn scan(input: Input, line: Line, chunk: &[u8], bytes: &mut [u8]) -> NextLine
     ensures { (result.input.end ≡ input.end) × Scanned (left_of input chunk.now) line bytes.old result (left_of result.input chunk.now) bytes.new }
 {
     let end = input.end;
-    let mut at = input.at;
     let mut held = line;
-    while at < end && at < chunk.len() {
+    for at in input.at..end.min(chunk.len()) {
         let b = chunk[at];
-        at += 1;
         if b == b'\n' {
             return NextLine {
-                input: Input { at, end },
+                input: Input { at: at + 1, end },
                 line: held,
                 counts: true,
                 ended: false,
@@ -60,7 +58,7 @@ fn scan(input: Input, line: Line, chunk: &[u8], bytes: &mut [u8]) -> NextLine
         held = held.fed(b, bytes);
     }
     NextLine {
-        input: Input { at, end },
+        input: Input { at: end, end },
         line: held,
         counts: (0 < held.len) | held.long,
         ended: true,
@@ -68,20 +66,20 @@ fn scan(input: Input, line: Line, chunk: &[u8], bytes: &mut [u8]) -> NextLine
 }
 
 // The next line, in `bytes`. More is read when the chunk is used up, until a line feed comes or a read brings nothing.
-// A proved loop has to end, so the reads are counted down from a number that no line uses up.
+// A proved loop has to end, so the reads are counted, up to a number that no line takes.
 pub fn next_line(stdin: Stdin, input: Input, chunk: &mut [u8], bytes: &mut [u8]) -> NextLine
     ensures { Next input chunk.old bytes.old result chunk.new bytes.new }
 {
-    let empty = Line::empty();
-    let mut next = scan(input, empty, chunk, bytes);
-    let mut left = u64::MAX;
-    let mut go = next.ended;
-    while left > 0 && go {
+    let mut next = scan(input, Line::empty(), chunk, bytes);
+    for _ in 0..u64::MAX {
+        if !next.ended {
+            return next;
+        }
         let fresh = read_chunk(stdin, chunk);
-        let line = next.line;
-        next = scan(fresh, line, chunk, bytes);
-        go = next.ended & (0 < fresh.end);
-        left -= 1;
+        next = scan(fresh, next.line, chunk, bytes);
+        if fresh.end == 0 {
+            return next;
+        }
     }
     next
 }

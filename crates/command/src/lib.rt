@@ -5,6 +5,7 @@ mod hex;
 pub mod input;
 pub mod line;
 pub mod printing;
+pub mod program;
 pub mod reading;
 pub mod request;
 

@@ -1,227 +1,140 @@
-// Which command a line of bytes is.
-ghost use Rattle.std.specs.Prelude.{◌-◌, ◌≡◌, get_or, drop};
-ghost use Rattle.command.specs.Model.Reading.{is_digit, fit, number_of, number_at, field_at, three_at, starts, is_word, start_line, move_line, goto_line, command_of};
+// Which command a line of bytes is. A reader takes what it reads from a line's front, and answers it with what is behind it.
+ghost use Rattle.std.specs.Prelude.{◌+◌, ◌-◌, ◌≡◌, IfSome, length, get_or};
+ghost use Rattle.command.specs.Model.Reading.{shown, shown_rest, after, is_digit, number_of, read_number, read_field, start_line, move_line, goto_line, read_command, command_of};
 
 use crate::Command;
 
-// A space and a number: the number, and how many bytes the two take; a width of 0 says that they are not there.
-#[derive(Clone, Copy)]
-pub struct Number {
-    pub value: u16,
-    pub width: u8,
-}
-
-// The same of a number that is a byte.
-#[derive(Clone, Copy)]
-pub struct Field {
-    pub value: u8,
-    pub width: u8,
-}
-
-// Three fields in a row; a width of 0 says that they are not there.
-#[derive(Clone, Copy)]
-pub struct Three {
-    pub first: u8,
-    pub second: u8,
-    pub third: u8,
-    pub width: u16,
-}
-
-// The byte at index i of what stands from `at` on, 0 past the end.
-fn byte(s: &[u8], at: usize, i: usize) -> u8
-    ensures { result ≡ get_or (drop at s.now) i 0 }
+// What is behind a word at the front.
+#[tactic(auto, unfolding(crate::specs::Model::Reading::after))]
+pub(crate) fn after<'a>(word: &[u8], s: &'a [u8]) -> Option<&'a [u8]>
+    ensures value { shown_rest result ≡ after word.now s.now }
+    ensures bound { IfSome result (λ x. length x.now + length word.now ≡ length s.now) }
 {
-    if s.len() <= at {
-        return 0;
-    }
-    if i < s.len() - at { s[at + i] } else { 0 }
+    s.strip_prefix(word)
+}
+
+// The byte at index i, 0 past the end.
+fn byte(s: &[u8], i: usize) -> u8
+    ensures { result ≡ get_or s.now i 0 }
+{
+    s.get(i).copied().unwrap_or(0)
 }
 
 fn digit(b: u8) -> bool
     ensures { result ≡ is_digit b }
 {
-    (b'0' <= b) & (b <= b'9')
+    b.is_ascii_digit()
 }
 
-fn worth(b: u8) -> u32
+fn worth(b: u8) -> u16
     ensures { result ≡ b - 48 }
 {
-    if b < b'0' { 0 } else { (b - b'0') as u32 }
+    b.saturating_sub(b'0') as u16
 }
 
-// A number that is read, if it is not above the most.
-fn fit(most: u16, n: u32, width: u8) -> Number
-    ensures { result ≡ fit most n width }
+// The number that starts with these bytes, a space and one to four digits without a leading zero; and how many bytes it takes.
+#[tactic(auto, unfolding(crate::specs::Model::Reading::number_of))]
+fn number_of(space: u8, a: u8, b: u8, c: u8, d: u8) -> Option<(u16, usize)>
+    ensures { result ≡ number_of space a b c d }
 {
-    if n <= most as u32 {
-        Number {
-            value: n as u16,
-            width,
-        }
-    } else {
-        Number { value: 0, width: 0 }
+    if space != b' ' || !digit(a) {
+        return None;
     }
-}
-
-// The number that starts with these bytes: one to four digits without a leading zero.
-fn number_of(most: u16, space: u8, a: u8, b: u8, c: u8, d: u8) -> Number
-    ensures { result ≡ number_of most space a b c d }
-{
-    let first = digit(a);
-    let second = digit(b);
-    let third = digit(c);
-    let fourth = digit(d);
     let one = worth(a);
+    if !digit(b) {
+        return Some((one, 2));
+    }
+    if a == b'0' {
+        return None;
+    }
     let two = 10 * one + worth(b);
+    if !digit(c) {
+        return Some((two, 3));
+    }
     let three = 10 * two + worth(c);
-    let four = 10 * three + worth(d);
-    if (space == b' ') & first {
-        if second {
-            if a == b'0' {
-                return fit(most, 0, 0);
-            }
-            if third {
-                if fourth {
-                    return fit(most, four, 5);
-                }
-                return fit(most, three, 4);
-            }
-            return fit(most, two, 3);
-        }
-        return fit(most, one, 2);
+    if !digit(d) {
+        return Some((three, 4));
     }
-    fit(most, 0, 0)
+    Some((10 * three + worth(d), 5))
 }
 
-fn number_at(most: u16, s: &[u8], at: usize) -> Number
-    ensures { result ≡ number_at most (drop at s.now) }
+// A number up to `most`.
+#[tactic(auto, unfolding(crate::specs::Model::Reading::read_number))]
+fn number(most: u16, s: &[u8]) -> Option<(u16, &[u8])>
+    ensures { shown result ≡ read_number most s.now }
 {
-    let space = byte(s, at, 0);
-    let a = byte(s, at, 1);
-    let b = byte(s, at, 2);
-    let c = byte(s, at, 3);
-    let d = byte(s, at, 4);
-    number_of(most, space, a, b, c, d)
-}
-
-pub(crate) fn field_at(s: &[u8], at: usize) -> Field
-    ensures { result ≡ field_at (drop at s.now) }
-{
-    let n = number_at(255, s, at);
-    Field {
-        value: n.value as u8,
-        width: n.width,
+    let (value, width) = number_of(byte(s, 0), byte(s, 1), byte(s, 2), byte(s, 3), byte(s, 4))?;
+    if most < value {
+        return None;
     }
+    Some((value, &s[width..]))
 }
 
-fn three_at(s: &[u8], at: u16) -> Three
-    ensures { result ≡ three_at (drop at s.now) }
+// A number that is a byte.
+#[tactic(auto, unfolding(crate::specs::Model::Reading::read_field))]
+pub(crate) fn field(s: &[u8]) -> Option<(u8, &[u8])>
+    ensures { shown result ≡ read_field s.now }
 {
-    let from = at as usize;
-    let x = field_at(s, from);
-    let after = from + x.width as usize;
-    let y = field_at(s, after);
-    let last = after + y.width as usize;
-    let z = field_at(s, last);
-    if (0 < x.width) & (0 < y.width) & (0 < z.width) {
-        Three {
-            first: x.value,
-            second: y.value,
-            third: z.value,
-            width: x.width as u16 + y.width as u16 + z.width as u16,
-        }
-    } else {
-        Three {
-            first: 0,
-            second: 0,
-            third: 0,
-            width: 0,
-        }
-    }
+    let (value, rest) = number(255, s)?;
+    Some((value as u8, rest))
 }
 
-// The line begins with this word.
-pub(crate) fn starts(word: &[u8], s: &[u8]) -> bool
-    ensures { result ≡ starts word.now s.now }
-{
-    let mut i = 0;
-    while i < word.len() {
-        if s.len() <= i {
-            return false;
-        }
-        if s[i] != word[i] {
-            return false;
-        }
-        i += 1;
-    }
-    true
-}
-
-// A line that begins with `start`: four numbers, or these and a fifth.
-fn start(s: &[u8]) -> Command
+// Behind `start`: four numbers, or these and a fifth.
+#[tactic(auto, unfolding(crate::specs::Model::Reading::start_line))]
+fn start(s: &[u8]) -> Option<Command>
     ensures { result ≡ start_line s.now }
 {
-    let p = field_at(s, 5);
-    let after = 5 + p.width as u16;
-    let rest = three_at(s, after);
-    let end = after as usize + rest.width as usize;
-    let stealing = field_at(s, end);
-    if (0 < p.width) & (0 < rest.width) & (end == s.len()) {
-        return Command::Start(p.value, rest.first, rest.second, rest.third);
+    let (p, s) = field(s)?;
+    let (t, s) = field(s)?;
+    let (m, s) = field(s)?;
+    let (b, s) = field(s)?;
+    if s.is_empty() {
+        return Some(Command::Start(p, t, m, b));
     }
-    let whole = end + stealing.width as usize;
-    if (0 < p.width) & (0 < rest.width) & (0 < stealing.width) & (whole == s.len()) {
-        return Command::StartWith(p.value, rest.first, rest.second, rest.third, stealing.value);
-    }
-    Command::Unknown
+    let (stealing, s) = field(s)?;
+    s.is_empty()
+        .then_some(Command::StartWith(p, t, m, b, stealing))
 }
 
-// A line that begins with `move`.
-fn step(s: &[u8]) -> Command
+// Behind `move`: three numbers.
+#[tactic(auto, unfolding(crate::specs::Model::Reading::move_line))]
+fn step(s: &[u8]) -> Option<Command>
     ensures { result ≡ move_line s.now }
 {
-    let numbers = three_at(s, 4);
-    let end = 4 + numbers.width as usize;
-    if (0 < numbers.width) & (end == s.len()) {
-        Command::Move(numbers.first, numbers.second, numbers.third)
-    } else {
-        Command::Unknown
-    }
+    let (p, s) = field(s)?;
+    let (action, s) = field(s)?;
+    let (operand, s) = field(s)?;
+    s.is_empty().then_some(Command::Move(p, action, operand))
 }
 
-// A line that begins with `goto`: one number, up to 4,000.
-fn goto(s: &[u8]) -> Command
+// Behind `goto`: one number, up to 4,000.
+#[tactic(auto, unfolding(crate::specs::Model::Reading::goto_line))]
+fn goto(s: &[u8]) -> Option<Command>
     ensures { result ≡ goto_line s.now }
 {
-    let k = number_at(4000, s, 4);
-    let end = 4 + k.width as usize;
-    if (0 < k.width) & (end == s.len()) {
-        return Command::Goto(k.value);
-    }
-    Command::Unknown
+    let (k, s) = number(4000, s)?;
+    s.is_empty().then_some(Command::Goto(k))
 }
 
-// The line is this word.
-pub(crate) fn is_word(word: &[u8], s: &[u8]) -> bool
-    ensures { result ≡ is_word word.now s.now }
+#[tactic(auto, unfolding(crate::specs::Model::Reading::read_command))]
+fn read(line: &[u8]) -> Option<Command>
+    ensures { result ≡ read_command line.now }
 {
-    starts(word, s) & (s.len() == word.len())
-}
-
-pub fn command_of(s: &[u8]) -> Command
-    ensures { result ≡ command_of s.now }
-{
-    if starts(b"start", s) {
+    if let Some(s) = after(b"start", line) {
         return start(s);
     }
-    if starts(b"move", s) {
+    if let Some(s) = after(b"move", line) {
         return step(s);
     }
-    if starts(b"goto", s) {
+    if let Some(s) = after(b"goto", line) {
         return goto(s);
     }
-    if is_word(b"show", s) {
-        return Command::Show;
-    }
-    Command::Unknown
+    (line == b"show".as_slice()).then_some(Command::Show)
+}
+
+#[tactic(auto, unfolding(crate::specs::Model::Reading::command_of))]
+pub fn command_of(line: &[u8]) -> Command
+    ensures { result ≡ command_of line.now }
+{
+    read(line).unwrap_or(Command::Unknown)
 }

@@ -1,11 +1,11 @@
 // What a line of the program `course` asks.
-ghost use Rattle.std.specs.Prelude.{ℕ, ◌≤◌, ◌≡◌, List, ◌++◌, length, drop};
+ghost use Rattle.std.specs.Prelude.{ℕ, ◌≤◌, ◌≡◌, List, Option, option_map, IfSome, length, take};
 ghost use Rattle.command.specs.Request.{asked, count_in, over};
-ghost use Rattle.command.specs.Model.Request.{values, listed, calls_in, script_line, turns_line, turn_line, first_hex, second_hex, mark_line, short_line, ask_in, front_in};
+ghost use Rattle.command.specs.Model.Request.{Asks, values, listed, calls_in, script_line, turns_line, turn_line, mark_front, mark_line, short_line, read_ask, front, ask_in, front_in};
 
 use crate::Command;
 use crate::hex::hex_bytes;
-use crate::reading::{command_of, field_at, is_word, starts};
+use crate::reading::{after, command_of, field};
 
 // The stepper's lines, and script k a o .., turn p, turns p .., view, chart, mark, help. Plain(Unknown) is a line that is no command.
 // Script(k, n), Turns(n), MarkOwn(n): their n numbers stand at the front of the lent buffer; Mark(n, m): n, and m behind them.
@@ -22,125 +22,109 @@ pub enum Request {
     Help,
 }
 
-// Fields in a row: how many, and whether they are all there is up to the line's end.
-#[derive(Clone, Copy)]
-pub struct Fields {
-    pub count: u16,
-    pub whole: bool,
-}
-
-// The numbers of the fields from `at` on, put at the buffer's front.
-fn fields_at(s: &[u8], at: u16, numbers: &mut [u8]) -> Fields
+// The numbers of fields up to the line's end, at most 1,024, put at the buffer's front: how many.
+fn fields(line: &[u8], numbers: &mut [u8]) -> Option<u16>
     requires { 1024 ≤ length numbers.old }
-    ensures value { result ≡ listed (drop at s.now) }
-    ensures numbers_after { numbers.new ≡ over numbers.old (values 1024 (drop at s.now)) }
+    ensures value { result ≡ listed line.now }
+    ensures numbers_after { numbers.new ≡ over numbers.old (values 1024 line.now) }
+    ensures listed { IfSome result (λ n. (take n numbers.new ≡ values 1024 line.now) × (n ≤ 1024)) }
 {
-    let mut count: u16 = 0;
-    let mut end = at as usize;
-    while count < 1024 {
-        let f = field_at(s, end);
-        let width = f.width;
-        if width == 0 {
-            return Fields {
-                count,
-                whole: s.len() <= end,
-            };
+    let mut s = line;
+    for count in 0..1024u16 {
+        if s.is_empty() {
+            return Some(count);
         }
-        let i = count as usize;
-        numbers[i] = f.value;
-        count += 1;
-        end += width as usize;
+        let (value, rest) = field(s)?;
+        numbers[count as usize] = value;
+        s = rest;
     }
-    Fields {
-        count,
-        whole: s.len() <= end,
-    }
+    s.is_empty().then_some(1024)
 }
 
-// A line that begins with `script`: a number, and an even number of further ones.
-fn script(s: &[u8], numbers: &mut [u8]) -> Request
+// Behind `script`: a number, and an even number of further ones.
+#[tactic(auto, unfolding(crate::specs::Model::Request::script_line, crate::specs::Model::Request::calls_in))]
+fn script(s: &[u8], numbers: &mut [u8]) -> Option<Request>
     requires { 1024 ≤ length numbers.old }
-    ensures numbers_after { asked result numbers.new ≡ script_line s.now }
-    ensures numbers_after_2 { numbers.new ≡ over numbers.old (values 1024 (calls_in s.now)) }
-    ensures result_bound { count_in result ≤ 1024 }
+    ensures { Asks result numbers.old numbers.new (script_line s.now) (calls_in s.now) }
 {
-    let k = field_at(s, 6);
-    let from = 6 + k.width as u16;
-    let calls = fields_at(s, from, numbers);
-    if (0 < k.width) & calls.whole & (calls.count % 2 == 0) {
-        return Request::Script(k.value, calls.count);
-    }
-    Request::Plain(Command::Unknown)
+    let (k, calls) = field(s)?;
+    let count = fields(calls, numbers)?;
+    (count % 2 == 0).then_some(Request::Script(k, count))
 }
 
-// A line that begins with `turns`: one number or more.
-fn turns(s: &[u8], numbers: &mut [u8]) -> Request
+// Behind `turns`: one number or more.
+#[tactic(auto, unfolding(crate::specs::Model::Request::turns_line))]
+fn turns(s: &[u8], numbers: &mut [u8]) -> Option<Request>
     requires { 1024 ≤ length numbers.old }
-    ensures numbers_after { asked result numbers.new ≡ turns_line s.now }
-    ensures numbers_after_2 { numbers.new ≡ over numbers.old (values 1024 (drop 5 s.now)) }
-    ensures result_bound { count_in result ≤ 1024 }
+    ensures { Asks result numbers.old numbers.new (turns_line s.now) (values 1024 s.now) }
 {
-    let processors = fields_at(s, 5, numbers);
-    if processors.whole & (0 < processors.count) {
-        return Request::Turns(processors.count);
-    }
-    Request::Plain(Command::Unknown)
+    let count = fields(s, numbers)?;
+    (0 < count).then_some(Request::Turns(count))
 }
 
-// A line that begins with `turn`: one number.
-fn turn(s: &[u8]) -> Request
-    ensures by_index { (b : List ℕ) → asked result b ≡ turn_line s.now }
-    ensures result_value { count_in result ≡ 0 }
+// Behind `turn`: one number.
+#[tactic(auto, unfolding(crate::specs::Model::Request::turn_line))]
+fn turn(s: &[u8]) -> Option<Request>
+    ensures by_index { (b : List ℕ) → option_map (λ r. asked r b) result ≡ turn_line s.now }
+    ensures result_value { IfSome result (λ r. count_in r ≡ 0) }
 {
-    let p = field_at(s, 4);
-    let end = 4 + p.width as usize;
-    if (0 < p.width) & (end == s.len()) {
-        return Request::Turn(p.value);
-    }
-    Request::Plain(Command::Unknown)
+    let (p, s) = field(s)?;
+    s.is_empty().then_some(Request::Turn(p))
 }
 
-// A line that begins with `mark`: one picture or two. The second's bytes stand behind the first's.
-fn mark(s: &[u8], numbers: &mut [u8]) -> Request
+// Behind `mark`: one picture or two. The second's bytes stand behind the first's.
+fn mark(s: &[u8], numbers: &mut [u8]) -> Option<Request>
     requires { (1024 ≤ length numbers.old) × (length s.now ≤ 2048) }
-    ensures numbers_after { asked result numbers.new ≡ mark_line s.now }
-    ensures numbers_after_2 { numbers.new ≡ over numbers.old (first_hex s.now ++ second_hex s.now) }
-    ensures result_bound { count_in result ≤ 1024 }
+    ensures { Asks result numbers.old numbers.new (mark_line s.now) (mark_front s.now) }
 {
-    let n = hex_bytes(s, 4, numbers);
-    let end = 5 + 2 * n;
-    let m = hex_bytes(s, end, &mut numbers[n..]);
-    if (0 < n) & (end == s.len()) {
-        return Request::MarkOwn(n as u16);
+    let (n, s) = hex_bytes(s, numbers)?;
+    if s.is_empty() {
+        return Some(Request::MarkOwn(n as u16));
     }
-    let last = 6 + 2 * n + 2 * m;
-    if (0 < n) & (0 < m) & (last == s.len()) {
-        return Request::Mark(n as u16, m as u16);
-    }
-    Request::Plain(Command::Unknown)
+    let (m, end) = hex_bytes(s, &mut numbers[n..])?;
+    end.is_empty().then_some(Request::Mark(n as u16, m as u16))
 }
 
 // A line without a list of numbers.
-fn short(s: &[u8]) -> Request
-    ensures by_index { (b : List ℕ) → asked result b ≡ short_line s.now }
-    ensures result_value { count_in result ≡ 0 }
+#[tactic(auto, unfolding(crate::specs::Model::Request::short_line))]
+fn short(line: &[u8]) -> Option<Request>
+    ensures by_index { (b : List ℕ) → option_map (λ r. asked r b) result ≡ short_line line.now }
+    ensures result_value { IfSome result (λ r. count_in r ≡ 0) }
 {
-    if starts(b"turn", s) {
+    if let Some(s) = after(b"turn", line) {
         return turn(s);
     }
-    if is_word(b"view", s) {
-        return Request::View;
+    if line == b"view".as_slice() {
+        return Some(Request::View);
     }
-    if is_word(b"chart", s) {
-        return Request::Chart;
+    if line == b"chart".as_slice() {
+        return Some(Request::Chart);
     }
-    if is_word(b"help", s) {
-        return Request::Help;
+    if line == b"help".as_slice() {
+        return Some(Request::Help);
     }
-    Request::Plain(command_of(s))
+    Some(Request::Plain(command_of(line)))
+}
+
+#[tactic(auto, unfolding(crate::specs::Model::Request::read_ask, crate::specs::Model::Request::front))]
+fn read(line: &[u8], numbers: &mut [u8]) -> Option<Request>
+    requires { (1024 ≤ length numbers.old) × (length line.now ≤ 2048) }
+    ensures { Asks result numbers.old numbers.new (read_ask line.now) (front line.now) }
+{
+    if let Some(s) = after(b"script", line) {
+        return script(s, numbers);
+    }
+    if let Some(s) = after(b"turns", line) {
+        return turns(s, numbers);
+    }
+    if let Some(s) = after(b"mark", line) {
+        return mark(s, numbers);
+    }
+    short(line)
 }
 
 // What a line asks. It has at most 2,048 bytes and the buffer at least 1024, enough for its numbers.
+#[tactic(auto, unfolding(crate::specs::Model::Request::ask_of, crate::specs::Model::Request::front_of))]
 pub fn request_of(line: &[u8], numbers: &mut [u8]) -> Request
     ensures numbers_after { asked result numbers.new ≡ ask_in (length numbers.old) line.now }
     ensures numbers_after_2 { numbers.new ≡ over numbers.old (front_in (length numbers.old) line.now) }
@@ -152,14 +136,5 @@ pub fn request_of(line: &[u8], numbers: &mut [u8]) -> Request
     if 2048 < line.len() {
         return Request::Plain(Command::Unknown);
     }
-    if starts(b"script", line) {
-        return script(line, numbers);
-    }
-    if starts(b"turns", line) {
-        return turns(line, numbers);
-    }
-    if starts(b"mark", line) {
-        return mark(line, numbers);
-    }
-    short(line)
+    read(line, numbers).unwrap_or(Request::Plain(Command::Unknown))
 }

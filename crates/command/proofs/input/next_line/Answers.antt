@@ -1,21 +1,18 @@
 -- `command::input::next_line` meets its contract.
-use mathlib.Core.Logic.{inl, inr}
-use mathlib.Core.Path.{refl}
-use Rattle.command.proofs.Scan.{reading_begun, reading_more, reading_done}
+use mathlib.Core.Path.{refl, ◌∙◌}
+use native.Mathlib.Omega.{arith}
+use Rattle.command.proofs.Scan.{reading_begun, reading_more, done_input}
 use borrow.Author.Rules.{rules}
 use Rattle.command.proofs.input.next_line.Goals as goal
 
-pub loop-left-init : goal.loop-left-init
-loop-left-init c = (refl, refl, λ input before x. x)
+pub loop-init : goal.loop-init
+loop-init c = (refl, search rules, reading_begun _ _ _ _ _ _ c.empty.ensures c.scan-next.ensures.0 c.scan-next.ensures.1)
 
-pub loop-left-preserved : goal.loop-left-preserved
-loop-left-preserved c =
-    (search rules, search rules, λ input before x. reading_more _ _ _ _ _ _ _ _ _ _ _ _ (c.loop-left.invariant.2 input before x) c.if-go.true c.loop-left-test.true c.read_chunk-fresh.ensures.0 c.scan-next-in-loop-left.ensures.0 c.scan-next-in-loop-left.ensures.1)
+pub returns-then-fresh-eq0 : goal.returns-then-fresh-eq0
+returns-then-fresh-eq0 c =
+    let r = reading_more _ _ _ _ _ _ _ _ _ _ _ c.loop.invariant.2 c.if-not-next.false c.read_chunk-fresh.ensures.0 c.scan-next-in-loop.ensures.0 c.scan-next-in-loop.ensures.1 in
+    done_input _ _ _ _ _ _ _ r (omega arith) (c.scan-next-in-loop.ensures.0 ∙ c.if-fresh-eq0.true)
 
-pub returns-else-go : goal.returns-else-go
-returns-else-go c =
-    reading_done _ _ _ _ _ _ _ _ (c.loop-left.invariant.2 c.args.input c.args.bytes.now (reading_begun _ _ _ _ _ _ c.empty-empty.ensures c.scan-next.ensures.0 c.scan-next.ensures.1)) (inl c.if-go.false)
-
-pub returns-after-loop-left : goal.returns-after-loop-left
-returns-after-loop-left c =
-    reading_done _ _ _ _ _ _ _ _ (c.loop-left.invariant.2 c.args.input c.args.bytes.now (reading_begun _ _ _ _ _ _ c.empty-empty.ensures c.scan-next.ensures.0 c.scan-next.ensures.1)) (inr c.loop-left-test.false)
+pub loop-preserved : goal.loop-preserved
+loop-preserved c =
+    (search rules, search rules, reading_more _ _ _ _ _ _ _ _ _ _ _ c.loop.invariant.2 c.if-not-next.false c.read_chunk-fresh.ensures.0 c.scan-next-in-loop.ensures.0 c.scan-next-in-loop.ensures.1)

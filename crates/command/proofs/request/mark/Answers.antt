@@ -1,22 +1,22 @@
 -- `command::request::mark` meets its contract.
+use mathlib.Core.Path.{◌∙◌}
 use native.Mathlib.Omega.{arith}
-use Rattle.command.proofs.Digits.{mark-read}
+use Rattle.command.proofs.Laws.{some_if}
+use Rattle.command.proofs.Digits.{counted-some, counted-none, mark-none, mark-one, mark-half, mark-two}
 use Rattle.command.proofs.request.mark.Goals as goal
 
-pub returns-then-n-end : goal.returns-then-n-end
-returns-then-n-end c =
-    let a = c.args in
-    let r = mark-read a.s.now a.numbers.now c.hex_bytes-n.new.numbers c.hex_bytes-m.new.numbers c.hex_bytes-n.result c.hex_bytes-m.result c.hex_bytes-n.ensures.value c.hex_bytes-n.ensures.numbers_after c.hex_bytes-m.ensures.value c.hex_bytes-m.ensures.numbers_after in
-    record { numbers_after = rw c.if-n-end.true at r.read; numbers_after_2 = r.buffer; result_bound = omega arith }
+pub returns-in_err-n : goal.returns-in_err-n
+returns-in_err-n c = rw c.from_residual.ensures (mark-none _ _ _ c.hex_bytes.ensures.numbers_after (counted-none _ c.in_err-n.ensures.value))
 
-pub returns-then-n-m : goal.returns-then-n-m
-returns-then-n-m c =
-    let a = c.args in
-    let r = mark-read a.s.now a.numbers.now c.hex_bytes-n.new.numbers c.hex_bytes-m.new.numbers c.hex_bytes-n.result c.hex_bytes-m.result c.hex_bytes-n.ensures.value c.hex_bytes-n.ensures.numbers_after c.hex_bytes-m.ensures.value c.hex_bytes-m.ensures.numbers_after in
-    record { numbers_after = rw (c.if-n-end.false, c.if-n-m.true) at r.read; numbers_after_2 = r.buffer; result_bound = omega arith }
+pub returns-then-is_empty : goal.returns-then-is_empty
+returns-then-is_empty c = mark-one _ _ _ c.hex_bytes.ensures.numbers_after _ _ (counted-some _ _ _ c.in_ok-n.ensures.value) (cc) (omega (arith, c.in_ok-n.ensures.bound))
+
+pub returns-in_err-m : goal.returns-in_err-m
+returns-in_err-m c =
+    rw c.from_residual-in_err-m.ensures
+    (mark-half _ _ _ c.hex_bytes.ensures.numbers_after _ _ (counted-some _ _ _ c.in_ok-n.ensures.value) _ c.hex_bytes-2.ensures.numbers_after (cc) (counted-none _ c.in_err-m.ensures.value))
 
 pub returns : goal.returns
 returns c =
-    let a = c.args in
-    let r = mark-read a.s.now a.numbers.now c.hex_bytes-n.new.numbers c.hex_bytes-m.new.numbers c.hex_bytes-n.result c.hex_bytes-m.result c.hex_bytes-n.ensures.value c.hex_bytes-n.ensures.numbers_after c.hex_bytes-m.ensures.value c.hex_bytes-m.ensures.numbers_after in
-    record { numbers_after = rw (c.if-n-end.false, c.if-n-m.false) at r.read; numbers_after_2 = r.buffer; result_bound = omega arith }
+    mark-two _ _ _ c.hex_bytes.ensures.numbers_after _ _ (counted-some _ _ _ c.in_ok-n.ensures.value) _ c.hex_bytes-2.ensures.numbers_after (cc)
+    _ _ (counted-some _ _ _ c.in_ok-m.ensures.value) _ (c.then_some.ensures ∙ rw c.is_empty-2.ensures (some_if _ _)) (omega (arith, c.in_ok-n.ensures.bound, c.in_ok-m.ensures.bound))
