@@ -11,8 +11,6 @@ use native.Mathlib.Decide.{dec_le}
 use lib.Dec.{eqb, ltb}
 use lib.ListN.{length}
 use borrow.Author.Tests.{eq-eqb, ne_eqb, lt-ltb}
-use Rattle.picture.specs.declared.answer.Ahead.{Ahead}
-use Rattle.picture.specs.declared.answer.Ahead.TheVariants.{Turns, NotWaiting, Refused}
 use Rattle.state.specs.declared.Thread.{Thread}
 use Rattle.state.specs.declared.Mutex.{Mutex}
 use Rattle.state.specs.declared.State.{State}
@@ -29,7 +27,7 @@ use Rattle.association.proofs.Tables.{find_none}
 use Rattle.association.proofs.Spots.{Placed, allowed-placed}
 use Rattle.association.proofs.Shown.{allowed-fits, read-entry}
 use Rattle.shown.proofs.Encode.{encode-decode, decode-allowed}
-use Rattle.picture.specs.Turns.{before, waits_for, turns_at, turns_ahead, meaning, ahead_refusal, ahead, answer}
+use Rattle.picture.specs.Turns.{Turns, NotWaiting, Refused, before, waits_for, turns_at, turns_ahead, meaning, ahead_refusal, ahead, answer}
 use Rattle.picture.specs.Model.Parts.{chain_turns}
 
 -- ---- the walk
@@ -177,6 +175,3 @@ meaning-ahead r k = go (ahead_refusal r k) (waits_for (decode r) k)
     go zero zero = refl
     go zero (suc m) = rw (lt-ltb 0 (suc m) (omega arith))
     go (suc n) m = refl
-
-pub both_ways : (a : Ahead) (r : State) (k : ℕ) → a ≡ ahead r k → (a ≡ ahead r k) × (meaning a ≡ answer r k)
-both_ways a r k e = (e, ap meaning e ∙ meaning-ahead r k)

@@ -10,8 +10,7 @@ use lib.Dec.{eqb, ltb}
 use lib.ListN.{length}
 use Rattle.state.specs.Rules.{sizes_ok, fields_ok, chains_ok, holders_ok, broken_rule}
 use Rattle.reference.specs.Refusal.{refuse}
-use Rattle.picture.specs.declared.answer.Read.{Read}
-use Rattle.picture.specs.Picture.{picture_length, fields, zero_bytes_ok, read_refusal, read}
+use Rattle.picture.specs.Picture.{Read, picture_length, fields, zero_bytes_ok, read_refusal, read}
 
 pub read_number : (b : List ℕ) (r : Read) → r ≡ read b → r.refusal ≡ read_refusal b
 unfolding read

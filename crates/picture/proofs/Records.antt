@@ -6,7 +6,8 @@ use mathlib.Core.List.{List, [], ◌∷◌, ◌++◌}
 use mathlib.Core.Path.{◌≡◌, refl, ap, ap₂, sym, subst, ◌∙◌}
 use native.Mathlib.Omega.{arith}
 use native.Mathlib.Decide.{ℕ_discrete}
-use lib.ListN.{length, length-append}
+use lib.ListN.{length, length-append, drop, get_or}
+use lib.Seq.{get_or-drop}
 use Rattle.state.specs.declared.State.{State}
 use Rattle.state.specs.Record.{thread_of, processor_of, mutex_of, first_of, chain, Sized}
 use Rattle.state.specs.Association.{decode, mutex_shown, queue_at, queue_shown, processor_record, thread_record}
@@ -40,6 +41,12 @@ first-shown r q = go (first_of r q)
     go : (k : ℕ) → first (chain (thread_of r) 32 k) ≡ k
     go zero = refl
     go (suc k) = refl
+
+-- a processor's first stands 8 places on
+pub own_rows : (r : State) (own : List ℕ) → own ≡ drop 8 r.chains.firsts → rows (λ p. processor_bytes (get_or own p 0) (processor_of r p)) 1 r.p ≡ processors_bytes r
+own_rows r own e =
+    rows_same (λ p. processor_bytes (get_or own p 0) (processor_of r p)) (λ p. processor_bytes (first_of r (8 + p)) (processor_of r p)) 1 r.p
+    (λ p h l. rw (e, get_or-drop 8 r.chains.firsts p 0))
 
 module _ (r : State) where
   pub processors-length : length (processors_bytes r) ≡ r.p * 12

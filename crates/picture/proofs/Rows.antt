@@ -3,6 +3,7 @@
 use Prim.Native.Nat.{ℕ, zero, suc, ◌+◌, ◌*◌, ◌-◌, ◌≤◌, ◌<◌}
 use mathlib.Core.Path.{◌≡◌, refl, ap, sym, ◌∙◌}
 use mathlib.Core.List.{List, [], ◌++◌, append_assoc, append-nil}
+use native.Mathlib.Nat.{suc-mul, mul-le-mul_right}
 use native.Mathlib.Numerals.{add-one}
 use native.Mathlib.Omega.{arith}
 use lib.ListN.{length, take, drop, length-append}
@@ -36,6 +37,10 @@ module _ (f : ℕ → List ℕ) (w : ℕ) (wide : (i : ℕ) → length (f i) ≡
 
   pub rows_no_room : (b : List ℕ) (n : ℕ) → length b < n * w → b ≡ over b (rows f 1 n)
   rows_no_room b n h = no_room b (rows f 1 n) (omega (arith, rows-length 1 n))
+
+-- the i-th of n rows ends where they end, or before
+pub row-room : (w i n : ℕ) → i < n → i * w + w ≤ n * w
+row-room w i n h = let e : suc i * w ≡ i * w + w = suc-mul i w in let m : suc i * w ≤ n * w = mul-le-mul_right w (omega arith) in omega (arith, e, m)
 
 -- before the first row
 pub rows_start : (f : ℕ → List ℕ) (b : List ℕ) → b ≡ over b (rows f 1 0)

@@ -1,7 +1,8 @@
 -- "Picture", on records: what writing leaves in a lent buffer, and what reading makes of bytes. Bytes are counted from 0.
 -- Assumes nothing.
-use Rattle.std.specs.Prelude.{ℕ, ◌+◌, ◌-◌, ◌*◌, ◌<◌, Bool, ◌&&◌, not, List, ◌++◌, eqb, leb, ltb, length, get_or, drop}
-use Rattle.picture.specs.declared.answer.Read.{Read}
+use Rattle.std.specs.Prelude.{ℕ, ◌+◌, ◌-◌, ◌*◌, ◌<◌, Bool, ◌&&◌, not, List, ◌++◌, eqb, leb, ltb, length, get_or, drop, Result, Ok, Err}
+use Rattle.state.specs.declared.refusal.Refusal.{Refusal}
+use Rattle.state.specs.Refusal.{number}
 use Rattle.state.specs.declared.Thread.{Thread}
 use Rattle.state.specs.declared.Processor.{Processor}
 use Rattle.state.specs.declared.Mutex.{Mutex}
@@ -137,6 +138,15 @@ read_refusal b =
     (refuse (not (eqb (length b) (picture_length (fields b)))) bad_length
     (refuse (not (zero_bytes_ok b)) bad_field (broken_rule (fields b)))))
 
--- the record of the bytes; refused, the number and an all-zero state
+-- 0 and the record of the bytes, or the number and an all-zero state
+pub record Read : Type 0 where
+  pub refusal : ℕ
+  pub state : State
+
 unfoldable pub read : List ℕ → Read
 read b = record { refusal = read_refusal b; state = if_zero (read_refusal b) (fields b) zero_state }
+
+-- the same of the code's answer
+unfoldable pub read_shown : Result State Refusal → Read
+read_shown (Ok state) = record { refusal = 0; state = state }
+read_shown (Err refusal) = record { refusal = number refusal; state = zero_state }

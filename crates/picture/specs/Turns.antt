@@ -1,8 +1,8 @@
 -- "Turns ahead": the answer of each case, and the reference formula on the queue of a state.
 -- Assumes nothing.
-use Rattle.std.specs.Prelude.{ℕ, suc, ◌+◌, Bool, true, false, not, List, [], ◌∷◌, eqb, ltb}
-use Rattle.picture.specs.declared.answer.Ahead.{Ahead}
-use Rattle.picture.specs.declared.answer.Ahead.TheVariants.{Turns, NotWaiting, Refused}
+use Rattle.std.specs.Prelude.{ℕ, suc, ◌+◌, Bool, true, false, not, List, [], ◌∷◌, eqb, ltb, Option, None, Some, Result, Ok, Err}
+use Rattle.state.specs.declared.refusal.Refusal.{Refusal}
+use Rattle.state.specs.Refusal.{number}
 use Rattle.state.specs.declared.State.{State}
 use Rattle.state.specs.Association.{decode}
 use Rattle.state.specs.Rules.{state_ok}
@@ -11,6 +11,21 @@ use Rattle.reference.specs.Lists.{choose, if_zero, in_range, find}
 use Rattle.reference.specs.State as reference
 use Rattle.reference.specs.State.{Mutex, mutex_at}
 use Rattle.reference.specs.Picture.{stands_in}
+
+-- the turns of a thread that waits, or that it does not wait, or the number of the refusal
+pub data Ahead : Type 0 where
+  Turns : ℕ → Ahead
+  NotWaiting : Ahead
+  Refused : ℕ → Ahead
+
+-- the same of the code's answer
+unfoldable pub turns_shown : Option ℕ → Ahead
+turns_shown (Some n) = Turns n
+turns_shown None = NotWaiting
+
+unfoldable pub ahead_shown : Result (Option ℕ) Refusal → Ahead
+ahead_shown (Ok turns) = turns_shown turns
+ahead_shown (Err refusal) = Refused (number refusal)
 
 -- an answer in the papers' terms: 0 or the number of the refusal, whether the thread waits, and its turns
 pub record Answer : Type 0 where

@@ -2,54 +2,72 @@
 #![tactic(auto)]
 
 ghost use Rattle.std.specs.Prelude.{◌≡◌, length};
-ghost use Rattle.picture.specs.Picture.{write_refusal, written, read};
-ghost use Rattle.picture.specs.Turns.{meaning, ahead, answer};
+ghost use Rattle.state.specs.Refusal.{outcome};
+ghost use Rattle.picture.specs.Picture.{write_refusal, written, read, read_shown};
+ghost use Rattle.picture.specs.Turns.{meaning, ahead, ahead_shown, answer};
 
-pub mod answer;
 mod reader;
-mod rule;
+mod row;
 mod waiting;
 pub mod writer;
 
-use answer::{Ahead, Read};
+use rules::field::Sizes;
 use state::State;
-use state::layout::threads_at;
+use state::layout::{Width, picture_bytes};
+use state::range::in_range;
 use state::refusal::Refusal;
 
-// The picture of a state into the buffer's front, its later bytes kept: 15, then 10, else 0.
-pub fn write(s: State, buffer: &mut [u8]) -> u8
-    ensures { (result ≡ write_refusal s (length buffer.old)) × (buffer.new ≡ written s buffer.old) }
+// The picture of a state into the buffer's front, its later bytes kept: 15, then 10.
+#[tactic(auto, unfolding(state::specs::Refusal::outcome, state::specs::Refusal::number, crate::specs::Picture::written))]
+pub fn write(s: State, buffer: &mut [u8]) -> Result<(), Refusal>
+    ensures number { outcome result ≡ write_refusal s (length buffer.old) }
+    ensures bytes { buffer.new ≡ written s buffer.old }
 {
-    let ok = rules::state_ok(s);
-    if !ok {
-        return Refusal::BAD_RECORD;
+    if !rules::state_ok(s) {
+        return Err(Refusal::BadRecord);
     }
     writer::put(buffer, s)
 }
 
-// The state that the bytes show: under 8 bytes 11, sizes 12, full length 11, then 12, 13, 14, else 0.
-pub fn read(bytes: &[u8]) -> Read
-    ensures { result ≡ read bytes.now }
+// The state that the bytes show: under 8 bytes 11, sizes 12, full length 11, then 12, 13, 14.
+#[tactic(auto, unfolding(state::specs::Refusal::outcome, state::specs::Refusal::number, crate::specs::Picture::read, crate::specs::Picture::read_refusal, crate::specs::Picture::read_shown))]
+pub fn read(bytes: &[u8]) -> Result<State, Refusal>
+    ensures { read_shown result ≡ read bytes.now }
 {
-    let shape = reader::shape_refusal(bytes);
-    if shape != 0 {
-        return reader::refused(shape);
+    if bytes.len() < Width::HEADER {
+        return Err(Refusal::BadLength);
     }
-    let at = threads_at(reader::byte(bytes, 0), reader::byte(bytes, 2));
-    reader::read_parts(bytes, &bytes[at..])
+    let state = reader::fields(bytes);
+    let sizes = Sizes {
+        p: state.p,
+        t: state.t,
+        m: state.m,
+        stealing: state.stealing,
+    };
+    if !sizes.fit() {
+        return Err(Refusal::BadField);
+    }
+    if bytes.len() != picture_bytes(state.p, state.t, state.m) {
+        return Err(Refusal::BadLength);
+    }
+    if !reader::zeros(bytes) {
+        return Err(Refusal::BadField);
+    }
+    rules::broken_rule(state)?;
+    Ok(state)
 }
 
-// How many threads get a thread's mutex before it: those in front of it in the queue, and the owner. 15, then 3.
-pub fn ahead(s: State, thread: u8) -> Ahead
-    ensures { (result ≡ ahead s thread) × (meaning result ≡ answer s thread) }
+// How many threads get a thread's mutex before it: those in front of it in the queue, and the owner; none where it does not wait. 15, then 3.
+#[tactic(auto, unfolding(state::specs::Refusal::number, crate::specs::Turns::ahead, crate::specs::Turns::ahead_shown, crate::specs::Turns::answer))]
+pub fn ahead(s: State, thread: u8) -> Result<Option<u8>, Refusal>
+    ensures shown { ahead_shown result ≡ ahead s thread }
+    ensures means { meaning (ahead_shown result) ≡ answer s thread }
 {
-    let ok = rules::state_ok(s);
-    if !ok {
-        return Ahead::Refused(Refusal::BAD_RECORD);
+    if !rules::state_ok(s) {
+        return Err(Refusal::BadRecord);
     }
-    let there = (1 <= thread) & (thread <= s.t);
-    if !there {
-        return Ahead::Refused(Refusal::BAD_OPERAND);
+    if !in_range(1, s.t, thread) {
+        return Err(Refusal::BadOperand);
     }
-    waiting::turns_ahead(s, thread)
+    Ok(waiting::turns_ahead(s, thread))
 }

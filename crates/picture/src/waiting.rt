@@ -1,48 +1,43 @@
 // Turns ahead by the chain of a mutex's queue.
 ghost use Rattle.std.specs.Prelude.{◌≡◌};
 ghost use Rattle.state.specs.Record.{thread_in, chain};
-ghost use Rattle.picture.specs.Turns.{before};
+ghost use Rattle.picture.specs.Turns.{before, turns_shown};
 ghost use Rattle.picture.specs.Model.Parts.{chain_turns};
 
-use crate::answer::Ahead;
-use state::{State, Thread, access, chain};
+use state::access::at;
+use state::{State, Thread};
 
 // How many threads stand before a thread in the chain from first: no chain has more than 32.
-pub(crate) fn before(threads: [Thread; 33], first: u8, thread: u8) -> u8
-    ensures { result ≡ before thread (chain (thread_in threads) 32 first) }
+fn before(threads: &[Thread], first: u8, thread: u8) -> u8
+    ensures { result ≡ before thread (chain (thread_in threads.now) 32 first) }
 {
-    let mut at = first;
-    let mut n: u8 = 0;
-    while n < 32 {
-        if at == 0 {
+    let mut k = first;
+    for n in 0..32u8 {
+        if k == 0 {
             return n;
         }
-        if at == thread {
+        if k == thread {
             return n;
         }
-        let x = chain::thread_at(threads, at);
-        at = x.next;
-        n += 1;
+        k = at(threads, k as usize).next;
     }
-    n
+    32
 }
 
 // By the thread's own record: its mutex, where it waits.
-pub(crate) fn turns_ahead(s: State, thread: u8) -> Ahead
-    ensures { result ≡ chain_turns s thread }
+#[tactic(auto, unfolding(crate::specs::Turns::turns_shown))]
+pub(crate) fn turns_ahead(s: State, thread: u8) -> Option<u8>
+    ensures { turns_shown result ≡ chain_turns s thread }
 {
-    let chains = s.chains;
-    let threads = chains.threads;
-    let firsts = chains.firsts;
-    let mutexes = s.mutexes;
-    let x = chain::thread_at(threads, thread);
+    let x = at(&s.chains.threads, thread as usize);
     if x.status != 2 {
-        return Ahead::NotWaiting;
+        return None;
     }
-    let n = before(threads, chain::first_at(firsts, x.holder), thread);
-    let mutex = access::mutex_at(mutexes, x.holder);
+    let first = at(&s.chains.firsts, x.holder as usize);
+    let n = before(&s.chains.threads, first, thread);
+    let mutex = at(&s.mutexes, x.holder as usize);
     if mutex.owner == 0 {
-        return Ahead::Turns(n);
+        return Some(n);
     }
-    Ahead::Turns(n + 1)
+    Some(n + 1)
 }

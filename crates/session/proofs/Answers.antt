@@ -3,13 +3,19 @@
 use Prim.Native.Nat.{ℕ, zero, suc, ◌*◌, ◌≤◌, ◌<◌}
 use mathlib.Core.Bool.{Bool, true, false, ◌&&◌, not}
 use mathlib.Core.List.{List, []}
-use mathlib.Core.Path.{◌≡◌, refl, ap, ◌∙◌}
+use mathlib.Core.Path.{◌≡◌, refl, sym, ap, ◌∙◌}
 use native.Mathlib.Omega.{arith}
 use lib.Dec.{eqb, leb}
 use lib.ListN.{length, take}
 use borrow.Author.Tests.{lt-ltb, le-ltb, ltb-false, eqb-true, eq-eqb, ne_eqb, not-false}
 use Rattle.state.specs.declared.State.{State as Record}
 use Rattle.state.specs.declared.Session.{Session}
+use Rattle.state.specs.declared.refusal.Refusal.{Refusal}
+use Rattle.state.specs.declared.refusal.Refusal.TheVariants.{BadConfig}
+use Rattle.state.specs.Refusal.{number}
+use Rattle.state.proofs.Refused.{numbered, not_none}
+use Rattle.session.specs.declared.Moved.{Moved}
+use Rattle.std.specs.Prelude.{Ok, Err}
 use Rattle.state.specs.Record.{zero_session, Sized}
 use Rattle.state.specs.Association.{encode, decode, session_record}
 use Rattle.state.specs.Rules.{session_ok}
@@ -26,9 +32,10 @@ use Rattle.shown.proofs.Kept.{state-kept, fields_say}
 use Rattle.shown.proofs.Unique.{session-held}
 use Rattle.agreement.proofs.Moved.{refusal, not-refused}
 use Rattle.touch.specs.Association.{touch_record}
-use Rattle.touch.specs.Model.Made.{Made, made_of}
+use Rattle.touch.specs.declared.Made as code
+use Rattle.touch.specs.Model.Made.{Made, made_of, made_shown}
 use Rattle.touch.proofs.Agrees.{made-valid}
-use Rattle.session.specs.Contract.{MoveAnswer, shown, started, or_later, lent_refusal, matches, test_refusal, move_refusal, moved, written_at, journal_after, front}
+use Rattle.session.specs.Contract.{MoveAnswer, answer_of, move_answer_of, shown, started, or_later, lent_refusal, matches, test_refusal, move_refusal, moved, written_at, journal_after, front}
 use Rattle.session.specs.Model.Replay.{stored, continued}
 use Rattle.session.proofs.Standing.{sets-written}
 
@@ -37,15 +44,15 @@ use Rattle.session.proofs.Standing.{sets-written}
 abbrev ranges_ok : Config → Bool
 ranges_ok c = in_range 1 8 c.P && in_range 1 32 c.T && in_range 1 8 c.M && in_range 1 c.T c.B && leb c.stealing 1
 
-pub started_taken : (c : Config) → ranges_ok c ≡ true →
-    record { refusal = 0; session = record { state = start_record c.P c.T c.M c.B c.stealing; initial = c.B; kept = 0 } } ≡ started c
-unfolding started config_cause
-started_taken c e =
+pub started_taken : (c : Config) → ranges_ok c ≡ true → (s : Record) → s ≡ start_record c.P c.T c.M c.B c.stealing →
+    answer_of zero_session (Ok (record { state = s; initial = c.B; kept = 0 })) ≡ started c
+unfolding started config_cause answer_of
+started_taken c e s is =
     let n : config_cause c ≡ 0 = rw e in
-    rw (e, start-shown c n)
+    rw (e, is, start-shown c n)
 
-pub started_refused : (c : Config) → ranges_ok c ≡ false → record { refusal = 1; session = zero_session } ≡ started c
-unfolding started config_cause
+pub started_refused : (c : Config) → ranges_ok c ≡ false → answer_of zero_session (Err BadConfig) ≡ started c
+unfolding started config_cause answer_of number
 started_refused c e = rw e
 
 -- no number is given: neither cause is there
@@ -102,9 +109,11 @@ test_passed r j e =
 
 module _ (r : Session) (j : List ℕ) (a : Move) where
   -- 10, 15 or 16: the record handed in, nothing touched, and the journal as it was
-  pub move_untested : (n : ℕ) → n ≡ test_refusal r j → (n ≡ 0 → ⊥) → (record { refusal = n; session = r; touch = touch_record nothing } ≡ moved r j a) × (j ≡ journal_after r j a)
-  unfolding move_refusal moved journal_after
-  move_untested n e h = let m : n ≡ move_refusal r j a = or_first n (test_refusal r j) _ e h in (rw (← m, ne_eqb n 0 h), rw (← m, ne_eqb n 0 h))
+  pub move_untested : (e : Refusal) → number e ≡ test_refusal r j → (move_answer_of r (Err e) ≡ moved r j a) × (j ≡ journal_after r j a)
+  unfolding move_answer_of move_refusal moved journal_after
+  move_untested e is =
+      let m : number e ≡ move_refusal r j a = or_first (number e) (test_refusal r j) _ is (not_none e) in
+      (rw (← m, numbered e), rw (← m, numbered e))
 
   module _ (size : Sized r.state) (free : test_refusal r j ≡ 0) (made : Made)
       (e : made ≡ made_of r.state a.processor a.action a.operand) where
@@ -150,12 +159,31 @@ module _ (r : Session) (j : List ℕ) (a : Move) where
             sets-written j r.state.applied a (omega (arith, lent.0, (legal (shown r) a free.0).room))
         by false e = refl
 
+    -- the code's answer
+    abbrev by_made : Made → MoveAnswer
+    by_made y = record { refusal = y.refusal; session = continued r y.state; touch = y.touch }
+
+    pub made_accepted : (m : code.Made) → made_shown r.state (Ok m) ≡ made → (x : Moved) → x ≡ record { session = continued r m.state; touch = m.touch } →
+        (move_answer_of r (Ok x) ≡ moved r j a) × (stored j r.state.applied a ≡ journal_after r j a)
+    unfolding made_shown move_answer_of
+    made_accepted m is x x-is =
+        (rw x-is (ap by_made is ∙ made_answer), ap (λ (y : Made). choose (eqb y.refusal 0) (stored j r.state.applied a) j) is ∙ made_journal)
+
+    pub made_refused : (e : Refusal) → made_shown r.state (Err e) ≡ made → (move_answer_of r (Err e) ≡ moved r j a) × (j ≡ journal_after r j a)
+    unfolding made_shown move_answer_of
+    made_refused e is =
+        let answer : Session → MoveAnswer = λ (s : Session). record { refusal = number e; session = s; touch = touch_record nothing } in
+        (ap answer (sym (continued_same r)) ∙
+         ap by_made is ∙ made_answer,
+         sym (ap (λ (b : Bool). choose b (stored j r.state.applied a) j) (numbered e)) ∙
+         ap (λ (y : Made). choose (eqb y.refusal 0) (stored j r.state.applied a) j) is ∙ made_journal)
+
 -- ---- the journal's front
 
 module _ (r : Session) (j : List ℕ) where
-  pub front-none : (n : ℕ) → n ≡ lent_refusal r (length j) → (n ≡ 0 → ⊥) → [] ≡ front r j
+  pub front-none : (e : Refusal) → number e ≡ lent_refusal r (length j) → [] ≡ front r j
   unfolding front
-  front-none n e h = rw (← e, ne_eqb n 0 h)
+  front-none e is = rw (← is, numbered e)
 
   pub front_some : lent_refusal r (length j) ≡ 0 → take (3 * r.state.applied) j ≡ front r j
   unfolding front decode

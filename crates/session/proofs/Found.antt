@@ -3,20 +3,25 @@
 use Prim.Native.Nat.{ℕ, ◌-◌, ◌*◌, ◌≤◌, ◌<◌}
 use mathlib.Core.Bool.{Bool, true, false, ◌&&◌, true≢false}
 use mathlib.Core.List.{List, []}
-use Rattle.std.specs.Prelude.{Some, None}
+use Rattle.std.specs.Prelude.{Some, None, Ok, Err}
 use mathlib.Core.Path.{◌≡◌, refl, sym, ap, ◌∙◌, subst}
 use native.Mathlib.Omega.{arith}
 use lib.Dec.{eqb}
 use lib.ListN.{length, take}
 use borrow.Author.Tests.{le-leb, lt-leb, eq-eqb, eqb-true, ne_eqb}
+use Rattle.session.specs.declared.replay.Stages.{Stages}
 use Rattle.state.specs.declared.Session.{Session}
+use Rattle.state.specs.declared.refusal.Refusal.{Refusal}
+use Rattle.state.specs.Refusal.{outcome}
+use Rattle.state.proofs.Refused.{numbered}
 use Rattle.state.specs.declared.State.{State as Record}
 use Rattle.state.specs.Association.{encode, decode}
 use Rattle.state.specs.Rules.{state_ok, session_ok}
 use Rattle.state.specs.Record.{Sized}
 use Rattle.state.specs.contracts.StatePartialEq.TheImpl as same
 use Rattle.state.specs.Model.Access.{start_record}
-use Rattle.step.specs.Model.Moves.{Run, run_from, run_of, counted_from, counted_of}
+use Rattle.step.specs.declared.Run as code
+use Rattle.step.specs.Model.Moves.{Run, run_shown, run_from, run_of, counted_from, counted_of}
 use Rattle.step.proofs.Split.{Alike, both-made, front-refused}
 use Rattle.reference.specs.Lists.{in_range, choose}
 use Rattle.reference.specs.State.{same_state}
@@ -31,7 +36,7 @@ use Rattle.shown.proofs.Decode.{decode-encode}
 use Rattle.shown.proofs.Reached.{reached-allowed}
 use Rattle.shown.proofs.Unique.{session-held}
 use Rattle.session.specs.Contract.{shown, config_of, lent_refusal, matches}
-use Rattle.session.specs.Model.Replay.{between, first_record, counted_to, farther, all_made, Reaches}
+use Rattle.session.specs.Model.Replay.{between, first_record, counted_to, farther, all_made, Reaches, Replays}
 use Rattle.session.proofs.Equal.{state_exact}
 use Rattle.session.proofs.Answers.{lent_passed}
 use Rattle.session.proofs.Replayed.{Made, made_all}
@@ -128,15 +133,25 @@ module _ (c : Config) (right : config_cause c ≡ 0) (j : List ℕ) (a b : ℕ) 
 -- no moves
 pub part_none : (a b : ℕ) → a ≡ b → (s : Record) (j calls : List ℕ) →
     (Some s ≡ all_made (run_of s (between a b j))) × (calls ≡ counted_of s (between a b j) calls)
-unfolding run_from counted_from
+unfolding all_made run_from counted_from
 part_none a b e s j calls = let z : 3 * b - 3 * a ≡ 0 = omega arith in rw z (refl, refl)
 
--- whether a run made all its moves
-pub not-made : (g : Run) → None ≡ all_made g → g.refusal ≡ 0 → ⊥
+-- whether the code's run made all its moves
+pub part_made : (r : code.Run) (g : Run) → run_shown r ≡ g → r.outcome ≡ Ok tt → Some r.state ≡ all_made g
+unfolding all_made outcome
+part_made r g is ok = rw (← is, ok)
+
+pub part_refused : (r : code.Run) (g : Run) → run_shown r ≡ g → (e : Refusal) → r.outcome ≡ Err e → None ≡ all_made g
+unfolding all_made outcome
+part_refused r g is e refused = rw (← is, refused, numbered e)
+
+not-made : (g : Run) → None ≡ all_made g → g.refusal ≡ 0 → ⊥
+unfolding all_made
 not-made g h z = let e = rw (eq-eqb g.refusal 0 z) at h in cc
 
 module _ (c : Config) (ms : List Move) (g : Run) (made : Made c ms (eqb g.refusal 0) g.state) where
   all-of : (x : Record) → Some x ≡ all_made g → Made c ms true x
+  unfolding all_made
   all-of x h = by (eqb g.refusal 0) made h
     where
       by : (t : Bool) → Made c ms t g.state → Some x ≡ choose t (Some g.state) None → Made c ms true x
@@ -148,18 +163,16 @@ module _ (c : Config) (ms : List Move) (g : Run) (made : Made c ms (eqb g.refusa
 
 -- ---- the journal's kept moves: the first a, those up to b, then the others
 
-module _ (r : Session) (j : List ℕ) (free : lent_refusal r (length j) ≡ 0) (a b : ℕ) (ab : a ≤ b) (top : b ≤ r.kept) where
+pub journal_long : (r : Session) (j : List ℕ) → lent_refusal r (length j) ≡ 0 → 3 * r.kept ≤ length j
+journal_long r j free = let h = lent_passed r (length j) free in omega (arith, h.0, (kept_range r h.1).1)
+
+module _ (r : Session) (j : List ℕ) (free : lent_refusal r (length j) ≡ 0) (a b : ℕ) (ab : a ≤ b) (top : b ≤ r.kept)
+    (first : Record) (first-is : first ≡ first_record r) where
   abbrev c : Config
   c = config_of r
 
-  ok : session_ok r ≡ true
-  ok = (lent_passed r (length j) free).1
-
   right : config_cause c ≡ 0
-  right = config-right r ok
-
-  pub journal-long : 3 * r.kept ≤ length j
-  journal-long = omega (arith, (lent_passed r (length j) free).0, (kept_range r ok).1)
+  right = config-right r (lent_passed r (length j) free).1
 
   -- not all of the first m are accepted
   none : (m : ℕ) → m ≤ r.kept → accepted (start c) (moves m j) ≡ false → Reaches r j a b None
@@ -171,76 +184,102 @@ module _ (r : Session) (j : List ℕ) (free : lent_refusal r (length j) ≡ 0) (
       by true z = absurd (true≢false (sym (accepted-within m r.kept j (start c) h z) ∙ e))
 
   -- the first a
-  abbrev front : Run
-  front = run_of (first_record r) (between 0 a j)
+  abbrev low_run : Run
+  low_run = run_of first (between 0 a j)
 
-  front_made : Made c (moves a j) (eqb front.refusal 0) front.state
-  front_made =
-      subst (λ (l : List ℕ). Made c (moves a j) (eqb (run_of (first_record r) l).refusal 0) (run_of (first_record r) l).state) (sym (between-front a j))
-      (made_all c right a j (omega (arith, journal-long)) (first_record r) refl)
+  low_made : Made c (moves a j) (eqb low_run.refusal 0) low_run.state
+  low_made =
+      subst (λ (l : List ℕ). Made c (moves a j) (eqb (run_of first l).refusal 0) (run_of first l).state) (sym (between-front a j))
+      (made_all c right a j (omega (arith, journal_long r j free)) first first-is)
 
-  front_counts : (calls : List ℕ) → counted_of (first_record r) (between 0 a j) calls ≡ counted_to r a j calls
-  front_counts calls = ap (λ (l : List ℕ). counted_of (first_record r) l calls) (between-front a j)
+  low_counts : (calls : List ℕ) → counted_of first (between 0 a j) calls ≡ counted_to r a j calls
+  low_counts calls = λ i. counted_of (first-is i) (between-front a j i) calls
 
-  pub low-made : (x : Record) → Some x ≡ all_made front → Made c (moves a j) true x
-  low-made x h = all-of c (moves a j) front front_made x h
+  pub low-all : (x : Record) → Some x ≡ all_made (run_of first (between 0 a j)) → Made c (moves a j) true x
+  low-all x h = all-of c (moves a j) low_run low_made x h
 
-  pub front-none : None ≡ all_made front → (calls : List ℕ) → Reaches r j a b None × (counted_of (first_record r) (between 0 a j) calls ≡ counted_to r b j calls)
-  front-none h calls = (
-    none a (omega arith) (none-of c (moves a j) front front_made h),
-    front_counts calls ∙
-    front-counts c right j a b ab (omega (arith, journal-long))
-    (λ e. not-made front h (ap (λ (l : List ℕ). (run_of (first_record r) l).refusal) (between-front a j) ∙ e)) calls,
+  pub low-none : None ≡ all_made (run_of first (between 0 a j)) → (calls n : List ℕ) → n ≡ counted_of first (between 0 a j) calls →
+      Reaches r j a b None × (n ≡ counted_to r b j calls)
+  low-none h calls n is = (
+    none a (omega arith) (none-of c (moves a j) low_run low_made h),
+    is ∙ low_counts calls ∙
+    front-counts c right j a b ab (omega (arith, journal_long r j free))
+    (λ e. not-made low_run h ((λ i. (run_of (first-is i) (between-front a j i)).refusal) ∙ e)) calls,
   )
 
   -- those up to b
   module _ (x : Record) (low : Made c (moves a j) true x) where
-    abbrev middle : Run
-    middle = run_of x (between a b j)
+    abbrev high_run : Run
+    high_run = run_of x (between a b j)
 
-    middle_made : Made c (moves b j) (eqb middle.refusal 0) middle.state
-    middle_made = part-made c right j a b ab (omega (arith, journal-long)) x low
+    high_made : Made c (moves b j) (eqb high_run.refusal 0) high_run.state
+    high_made = part-made c right j a b ab (omega (arith, journal_long r j free)) x low
 
-    pub middle_counts : (calls : List ℕ) → counted_of x (between a b j) (counted_of (first_record r) (between 0 a j) calls) ≡ counted_to r b j calls
-    middle_counts calls = ap (counted_of x (between a b j)) (front_counts calls) ∙ part-counts c right j a b ab (omega (arith, journal-long)) x low calls
+    pub high-all : (y : Record) → Some y ≡ all_made (run_of x (between a b j)) → Made c (moves b j) true y
+    high-all y h = all-of c (moves b j) high_run high_made y h
 
-    pub high-made : (y : Record) → Some y ≡ all_made middle → Made c (moves b j) true y
-    high-made y h = all-of c (moves b j) middle middle_made y h
+    pub high-none : None ≡ all_made (run_of x (between a b j)) → Reaches r j a b None
+    high-none h = none b top (none-of c (moves b j) high_run high_made h)
 
-    pub middle-none : None ≡ all_made middle → Reaches r j a b None
-    middle-none h = none b top (none-of c (moves b j) middle middle_made h)
+    pub high_counts : (calls n m : List ℕ) → n ≡ counted_of first (between 0 a j) calls → m ≡ counted_of x (between a b j) n → m ≡ counted_to r b j calls
+    high_counts calls n m n-is m-is =
+        m-is ∙ ap (counted_of x (between a b j)) (n-is ∙ low_counts calls) ∙
+        part-counts c right j a b ab (omega (arith, journal_long r j free)) x low calls
 
     -- the others
     module _ (y : Record) (high : Made c (moves b j) true y) where
-      abbrev rest : Run
-      rest = run_of y (between b r.kept j)
+      abbrev rest_run : Run
+      rest_run = run_of y (between b r.kept j)
 
-      rest_made : Made c (moves r.kept j) (eqb rest.refusal 0) rest.state
-      rest_made = part-made c right j b r.kept top journal-long y high
+      rest_made : Made c (moves r.kept j) (eqb rest_run.refusal 0) rest_run.state
+      rest_made = part-made c right j b r.kept top (journal_long r j free) y high
 
-      pub rest-none : None ≡ all_made rest → Reaches r j a b None
-      rest-none h = none r.kept (omega arith) (none-of c (moves r.kept j) rest rest_made h)
+      pub rest-none : None ≡ all_made (run_of y (between b r.kept j)) → Reaches r j a b None
+      rest-none h = none r.kept (omega arith) (none-of c (moves r.kept j) rest_run rest_made h)
 
-      pub rest-some : (z : Record) → Some z ≡ all_made rest → Reaches r j a b (Some (record { low = x; high = y }))
+      pub rest-all : (z : Record) → Some z ≡ all_made (run_of y (between b r.kept j)) → Reaches r j a b (Some (record { low = x; high = y }))
       unfolding Reaches
-      rest-some z h = (sym (all-of c (moves r.kept j) rest rest_made z h).accepts, low.state refl, high.state refl)
+      rest-all z h = (sym (all-of c (moves r.kept j) rest_run rest_made z h).accepts, low.state refl, high.state refl)
 
 -- ---- the comparison with the record
 
 module _ (r : Session) (size : Sized r.state) (j : List ℕ) (free : lent_refusal r (length j) ≡ 0) where
-  pub matches-is : (standing : Record) → accepted (start (config_of r)) (moves r.kept j) ≡ true →
-      standing ≡ encode (run (start (config_of r)) (moves r.state.applied j)) → (b : Bool) → b ≡ same.eq-value.it standing r.state → b ≡ matches r j
+  matches-is : (standing : Record) → accepted (start (config_of r)) (moves r.kept j) ≡ true →
+      standing ≡ encode (run (start (config_of r)) (moves r.state.applied j)) → (b : Bool) → b ≡ same.eq-value.it standing r.state → matches r j ≡ b
   unfolding matches replays decode
   matches-is standing all is b e =
       let good = (lent_passed r (length j) free).1 in
       let exact = state_exact standing r.state in
-      alike_is r size good (moves r.state.applied j) (accepted-within r.state.applied r.kept j (start (config_of r)) (kept_range r good).0 all) standing is b
-      (λ z. exact.0 (sym e ∙ z)) (λ z. e ∙ exact.1 z) ∙
-      sym (rw all)
+      rw all
+      (sym
+      (alike_is r size good (moves r.state.applied j) (accepted-within r.state.applied r.kept j (start (config_of r)) (kept_range r good).0 all) standing is b
+      (λ z. exact.0 (sym e ∙ z)) (λ z. e ∙ exact.1 z)))
 
-  pub unmatched : accepted (start (config_of r)) (moves r.kept j) ≡ false → matches r j ≡ false
-  unfolding matches replays decode
-  unmatched e = rw e
+  module _ (k : ℕ) where
+    -- not all is accepted
+    pub found-none : (a b : ℕ) → Reaches r j a b None → Replays r j k None
+    unfolding Reaches Replays matches replays
+    found-none a b e = rw e
+
+    -- the standing moves are the later ones
+    module _ (x : Stages) (h : Reaches r j k r.state.applied (Some x)) where
+      pub high-same : true ≡ same.eq-value.it x.high r.state → Replays r j k (Some x.low)
+      unfolding Reaches Replays
+      high-same e = (matches-is x.high h.0 h.2 true e, h.1)
+
+      pub high-other : false ≡ same.eq-value.it x.high r.state → Replays r j k None
+      unfolding Reaches Replays
+      high-other e = matches-is x.high h.0 h.2 false e
+
+    -- the standing moves are the earlier ones
+    module _ (x : Stages) (h : Reaches r j r.state.applied k (Some x)) where
+      pub low-same : true ≡ same.eq-value.it x.low r.state → Replays r j k (Some x.high)
+      unfolding Reaches Replays
+      low-same e = (matches-is x.low h.0 h.1 true e, h.2)
+
+      pub low-other : false ≡ same.eq-value.it x.low r.state → Replays r j k None
+      unfolding Reaches Replays
+      low-other e = matches-is x.low h.0 h.1 false e
 
 -- the farther step
 pub farther-standing : (r : Session) (k : ℕ) → k ≤ r.state.applied → r.state.applied ≡ farther r k

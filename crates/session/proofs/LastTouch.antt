@@ -15,7 +15,7 @@ use Rattle.reference.specs.Start.{Config, start}
 use Rattle.reference.specs.Step.{Move, run}
 use Rattle.reference.specs.Cause.{cause, accepted}
 use Rattle.reference.specs.Lists.{choose}
-use Rattle.reference.specs.Touch.{nothing, touched, last_touch}
+use Rattle.reference.specs.Touch.{nothing, last_touch}
 use Rattle.reference.specs.Session.{moves}
 use Rattle.reference.proofs.Moves.{last_snoc, accepted-last}
 use Rattle.touch.specs.Association.{touch_record}
@@ -81,11 +81,11 @@ module _ (r : Session) (j : List ℕ) where
     state-is = s-is ∙ rw (eq-eqb (goto_refusal r j n) 0 e)
 
     pub last_some : (w : Touch) → w ≡ touch_record (touch_of s (get_or j (3 * n) 0) (get_or j (3 * n + 1) 0) (get_or j (3 * n + 2) 0)) → w ≡ last_touched r j
-    unfolding last_touched touched
+    unfolding last_touched
     last_some w w-is =
         w-is ∙
         ap touch_record
         (ap (λ (x : Record). touch_of x a.processor a.action a.operand) state-is ∙
-        touch-shows (run (start c) (moves n j)) (reached-allowed c t.config (moves n j) legal.0) a legal.1) ∙
-        rw (eq-eqb (cause (run (start c) (moves n j)) a) 0 legal.1, eq-eqb (test_refusal r j) 0 tested)
-        (ap touch_record (sym (ap (last_touch (start c)) all-is ∙ last_snoc (moves n j) (start c) a)))
+        touch-shows (run (start c) (moves n j)) (reached-allowed c t.config (moves n j) legal.0) a legal.1 ∙
+        sym (ap (last_touch (start c)) all-is ∙ last_snoc (moves n j) (start c) a)) ∙
+        rw (eq-eqb (test_refusal r j) 0 tested)

@@ -3,11 +3,11 @@
 use Prim.Native.Nat.{ℕ, ◌≤◌, ◌<◌}
 use mathlib.Core.Bool.{true, false}
 use mathlib.Core.List.{List}
-use mathlib.Core.Path.{◌≡◌, ap, ◌∙◌}
+use mathlib.Core.Path.{◌≡◌, subst}
 use native.Mathlib.Omega.{arith}
 use lib.ListN.{length}
 use borrow.Author.Tests.{lt-ltb, le-ltb, ne_eqb}
-use Rattle.std.specs.Prelude.{Ok, Err}
+use Rattle.std.specs.Prelude.{Option, Some, None, Ok, Err}
 use Rattle.state.specs.declared.Session.{Session}
 use Rattle.state.specs.declared.State.{State as Record}
 use Rattle.state.specs.declared.refusal.Refusal.{Refusal}
@@ -19,6 +19,7 @@ use Rattle.reference.specs.Start.{start}
 use Rattle.reference.specs.Step.{run}
 use Rattle.reference.specs.Session.{moves}
 use Rattle.session.specs.Contract.{config_of, answer_of, lent_refusal, matches, goto_refusal, went}
+use Rattle.session.specs.Model.Replay.{Replays}
 use Rattle.session.proofs.Answers.{or_first}
 
 module _ (r : Session) (j : List ℕ) (k : ℕ) where
@@ -36,11 +37,16 @@ module _ (r : Session) (j : List ℕ) (k : ℕ) where
     goto-none h = goto-refused NoStep (rw (free, lt-ltb r.kept k h))
 
     module _ (within : k ≤ r.kept) where
-      pub goto_mismatch : matches r j ≡ false → answer_of r (Err BadJournal) ≡ went r j k
-      unfolding goto_refusal number
-      goto_mismatch e = goto-refused BadJournal (rw (free, le-ltb r.kept k within, e))
+      -- by what the replay found
+      pub goto-mismatch : (o : Option Record) → Replays r j k o → o ≡ None → answer_of r (Err BadJournal) ≡ went r j k
+      unfolding goto_refusal number Replays
+      goto-mismatch o h e =
+          let other : matches r j ≡ false = subst (Replays r j k) e h in
+          goto-refused BadJournal (rw (free, le-ltb r.kept k within, other))
 
-      pub goto-taken : matches r j ≡ true → (s : Record) → s ≡ encode (run (start (config_of r)) (moves k j)) →
+      pub goto-taken : (o : Option Record) → Replays r j k o → (s : Record) → o ≡ Some s →
           answer_of r (Ok (record { state = s; initial = r.initial; kept = r.kept })) ≡ went r j k
-      unfolding went goto_refusal answer_of
-      goto-taken e s is = rw (free, le-ltb r.kept k within, e, is)
+      unfolding went goto_refusal answer_of Replays
+      goto-taken o h s e =
+          let same : (matches r j ≡ true) × (s ≡ encode (run (start (config_of r)) (moves k j))) = subst (Replays r j k) e h in
+          rw (free, le-ltb r.kept k within, same.0, same.1)

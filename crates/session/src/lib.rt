@@ -35,6 +35,7 @@ fn config_ok(p: u8, t: u8, m: u8, b: u8, stealing: u8) -> bool
 }
 
 // Begins a session: P processors, T threads, M mutexes, B threads created at first; stealing 0 for a single ready queue, 1 for one for each processor.
+#[tactic(auto, using(crate::proofs::Answers::started_taken, crate::proofs::Answers::started_refused))]
 pub fn start(p: u8, t: u8, m: u8, b: u8, stealing: u8) -> Result<Session, Refusal>
     ensures { answer_of zero_session result ≡ started (table p t m b stealing) }
 {
@@ -49,6 +50,7 @@ pub fn start(p: u8, t: u8, m: u8, b: u8, stealing: u8) -> Result<Session, Refusa
 }
 
 // The first causes of each call that is lent a journal of n bytes: it is too short, or the record breaks a rule.
+#[tactic(auto, using(crate::proofs::Answers::lent_short, crate::proofs::Answers::lent_ok, crate::proofs::Answers::lent_bad), unfolding(state::specs::Refusal::outcome, state::specs::Refusal::number))]
 pub fn lent(session: Session, n: usize) -> Result<(), Refusal>
     ensures { outcome result ≡ lent_refusal session n }
 {

@@ -132,6 +132,7 @@ pub fn touched(s: State, p: u8, action: u8, operand: u8) -> Touch
 }
 
 // One move. Refused, nothing is touched.
+#[tactic(auto, using(state::proofs::Refused::numbered), unfolding(step::specs::Model::Moves::moved_shown, crate::specs::Model::Made::made_shown, crate::specs::Model::Made::made_of))]
 pub fn make(s: State, p: u8, action: u8, operand: u8) -> Result<Made, Refusal>
     ensures { made_shown s result ≡ made_of s p action operand }
 {

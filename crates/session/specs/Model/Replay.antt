@@ -42,7 +42,7 @@ abbrev pub farther : Session → ℕ → ℕ
 farther r k = choose (leb k r.state.applied) r.state.applied k
 
 -- the state that a run leads to, if all its moves are accepted
-abbrev pub all_made : Run → Option State
+unfoldable pub all_made : Run → Option State
 all_made r = choose (eqb r.refusal 0) (Some r.state) None
 
 -- the records of the states after the first a and the first b of the kept moves, if all are accepted

@@ -1,30 +1,34 @@
 -- `picture::reader::fields` meets its contract.
 -- Assumes nothing.
-use Rattle.picture.specs.Model.Parts.{fields_with}
+use Rattle.std.proofs.Common.{rules, refl, ◌≡◌}
+use Rattle.state.proofs.Tables.{table_of}
+use Rattle.picture.specs.Picture.{first_read, fields}
 use Rattle.picture.proofs.reader.fields.Goals as goal
 
 pub returns : goal.returns
-unfolding fields_with
+unfolding fields
 returns c =
-    let y = c in
-    let t = y in
-    let f = t in
-    let front = f in
-    let three = front in
-    let two = three in
-    let one = two in
-    let applied = rw (y.byte-4.ensures, y.byte-3.ensures) at y.two.ensures in
-    let firsts = rw (t.byte.ensures, f.from-after.ensures, front.from-front.ensures, three.byte-m.ensures, one.byte-p.ensures) at t.firsts.ensures in
-    let threads = rw two.byte-t.ensures at t.threads.ensures in
-    let processors = rw (front.from-front.ensures, one.byte-p.ensures) at c.processors.ensures in
-    let mutexes = rw (f.from-after.ensures, three.byte-m.ensures, one.byte-p.ensures) at c.mutexes.ensures in
-    (λ i. record {
-      p = one.byte-p.ensures i;
-      t = two.byte-t.ensures i;
-      m = three.byte-m.ensures i;
-      stealing = y.byte-2.ensures i;
-      applied = applied i;
-      chains = record { firsts = firsts i; threads = threads i };
-      processors = processors i;
-      mutexes = mutexes i;
-    })
+    let firsts = table_of _
+    (λ f. (f.0.now ≡ c.at-ready.result) × (f.1.now ≡ c.from-processors.result.now) × (f.2.now ≡ c.at-p.result) × (f.3.now ≡ c.from-mutexes.result.now) × (f.4.now ≡ c.at-m.result))
+    (first_read c.at-ready.result c.from-processors.result.now c.at-p.result c.from-mutexes.result.now c.at-m.result) (λ p q i y k called. search rules) c.from_fn.result 17 _
+    (refl, refl, refl, refl, refl) c.from_fn.ensures.items
+    in
+    rw (
+      firsts,
+      c.table.ensures,
+      c.table-2.ensures,
+      c.table-3.ensures,
+      c.two.ensures,
+      c.at.ensures,
+      c.at-2.ensures,
+      c.at-3.ensures,
+      c.from.ensures,
+      c.from-processors.ensures,
+      c.from-mutexes.ensures,
+      c.threads_at.ensures,
+      c.mutexes_at.ensures,
+      c.at-ready.ensures,
+      c.at-m.ensures,
+      c.at-t.ensures,
+      c.at-p.ensures,
+    )

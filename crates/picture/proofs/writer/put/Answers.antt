@@ -1,33 +1,23 @@
 -- `picture::writer::put` meets its contract.
 -- Assumes nothing.
-use mathlib.Core.Path.{refl, sym}
-use Prim.Native.Nat.{◌+◌, ◌*◌}
+use mathlib.Core.Path.{refl, ap, ◌∙◌}
 use native.Mathlib.Omega.{arith}
-use borrow.Author.Tests.{lt-ltb, le-ltb}
 use Rattle.state.specs.Record.{first_of}
-use Rattle.picture.specs.Model.Parts.{header_bytes, processors_bytes, mutexes_bytes, threads_bytes, record_bytes}
-use Rattle.picture.proofs.Over.{no_room, four}
-use Rattle.picture.proofs.Records.{processors-length, mutexes-length, threads-length, record_length}
+use Rattle.picture.specs.Model.Parts.{over, header_bytes, processors_bytes, mutexes_bytes, threads_bytes, record_bytes}
+use Rattle.picture.proofs.Over.{no_room, part, four}
+use Rattle.picture.proofs.Records.{own_rows, processors-length, mutexes-length, threads-length, record_length}
 use Rattle.picture.proofs.writer.put.Goals as goal
 
-pub returns-then-b-threads_at : goal.returns-then-b-threads_at
-returns-then-b-threads_at c =
-    let s = c in
-    (sym (rw (lt-ltb _ _ c.if-b-threads_at.true)), no_room s.args.b.now (record_bytes s.args.s) (omega (arith, record_length s.args.s)))
+pub returns-then-b-picture_bytes-clause-bytes : goal.returns-then-b-picture_bytes-clause-bytes
+returns-then-b-picture_bytes-clause-bytes c =
+    let r = c.args.s in
+    no_room c.args.b.now (record_bytes r) (omega (arith, record_length r, c.picture_bytes.ensures))
 
-pub returns : goal.returns
+pub returns-clause-bytes : goal.returns-clause-bytes
 unfolding record_bytes
-returns c =
-    let t = c in
-    let m = t in
-    let p = m in
-    let h = p in
-    let i = h in
-    let s = i in
-    let r = s.args.s in (
-      sym (rw (le-ltb _ _ i.if-b-threads_at.false)),
-      four s.args.b.now (header_bytes r.p r.t r.m (first_of r 0) r.applied r.stealing) (processors_bytes r) (mutexes_bytes r) (threads_bytes r)
-          h.put_header.new.b p.put_processors.new.b m.put_mutexes.new.b t.put_threads.new.b 8 (8 + 12 * r.p) (8 + 12 * r.p + 8 * r.m) refl
-          (omega (arith, processors-length r)) (omega (arith, mutexes-length r)) (omega (arith, threads-length r))
-          (rw h.first_at.ensures at h.put_header.ensures) p.put_processors.ensures m.put_mutexes.ensures t.put_threads.ensures,
-    )
+returns-clause-bytes c =
+    let r = c.args.s in
+    four c.args.b.now (header_bytes r.p r.t r.m (first_of r 0) r.applied r.stealing) (processors_bytes r) (mutexes_bytes r) (threads_bytes r)
+    c.store.new.b c.put_table.new.b c.put_table-2.new.b c.put_table-3.new.b 8 c.mutexes_at.result c.threads_at.result refl
+    (omega (arith, processors-length r, c.mutexes_at.ensures)) (omega (arith, mutexes-length r, c.mutexes_at.ensures, c.threads_at.ensures)) (omega (arith, threads-length r, c.threads_at.ensures, c.picture_bytes.ensures))
+    c.store.ensures (c.put_table.ensures ∙ ap (over (part c.store.new.b 8)) (own_rows r c.from.result.now c.from.ensures)) c.put_table-2.ensures c.put_table-3.ensures
