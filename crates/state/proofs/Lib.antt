@@ -9,6 +9,4 @@ pub mod Fill
 pub mod Sized
 pub mod Table
 pub mod Started
-pub mod Bytes
-pub mod Refusals
 pub mod Tables

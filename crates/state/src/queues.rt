@@ -1,68 +1,16 @@
-// The queues while moves are made: the first of each, and the threads as bytes, both changed in place.
-ghost use Rattle.std.specs.Prelude.{◌≡◌, ◌+◌, ◌*◌, get_or, set};
-ghost use Rattle.reference.specs.Lists.{tabulate};
+// The queues: what one begins with, and how a thread leaves and joins one.
+ghost use Rattle.std.specs.Prelude.{◌≡◌};
 ghost use Rattle.reference.specs.State.{queues};
-ghost use Rattle.state.specs.Model.Access.{queued_in, taken_in, bytes_of, thread_from, with_thread, last_in, joined_firsts, joined_threads};
+ghost use Rattle.state.specs.Model.Access.{queued_in, taken, last_from, removed, joined, placed};
 
-use crate::Thread;
 use crate::access::{at, put};
-use std::array;
-
-// Thread k's status, holder and next are bytes 3k, 3k + 1 and 3k + 2.
-pub fn status_in(threads: &[u8], k: u8) -> u8
-    ensures { result ≡ get_or threads.now (3 * k) 0 }
-{
-    at(threads, 3 * (k as usize))
-}
-
-pub fn next_in(threads: &[u8], k: u8) -> u8
-    ensures { result ≡ get_or threads.now (3 * k + 2) 0 }
-{
-    at(threads, 3 * (k as usize) + 2)
-}
-
-pub fn put_thread(threads: &mut [u8], k: u8, t: Thread)
-    ensures { threads.new ≡ with_thread threads.old k t }
-{
-    let i = 3 * (k as usize);
-    put(threads, i, t.status);
-    put(threads, i + 1, t.holder);
-    put(threads, i + 2, t.next);
-}
+use crate::{Chains, Thread};
 
 // The front of a queue: its first thread, and the first of the chain that remains behind it.
 #[derive(Clone, Copy, Debug, PartialEq, Eq)]
 pub struct Front {
     pub thread: u8,
     pub rest: u8,
-}
-
-// Takes from queue q: its front, if it has one, while the queue stays as it is until the thread is moved.
-pub fn take(firsts: &[u8], threads: &[u8], q: u8) -> Option<Front>
-    ensures { result ≡ taken_in firsts.now threads.now q }
-{
-    let first = at(firsts, q as usize);
-    let rest = next_in(threads, first);
-    let front = Front {
-        thread: first,
-        rest,
-    };
-    if first == 0 { None } else { Some(front) }
-}
-
-// The thread at the end of the chain from first: no chain has more than 32 links.
-fn last_in(threads: &[u8], first: u8) -> u8
-    ensures { result ≡ last_in threads.now 32 first }
-{
-    let mut k = first;
-    for _ in 0..32u8 {
-        let next = next_in(threads, k);
-        if next == 0 {
-            return k;
-        }
-        k = next;
-    }
-    k
 }
 
 // How many ready queues there are: one for all, or one for each of n processors.
@@ -91,45 +39,70 @@ pub fn queued_in(q: u8) -> Thread
     }
 }
 
-// Thread k joins queue q's end.
-pub fn join(firsts: &mut [u8], threads: &mut [u8], q: u8, k: u8)
-    ensures firsts { firsts.new ≡ joined_firsts firsts.old q k }
-    ensures threads { threads.new ≡ joined_threads firsts.old threads.old q k }
-{
-    let front = at(firsts, q as usize);
-    if front == 0 {
-        put_thread(threads, k, queued_in(q));
-        put(firsts, q as usize, k);
-    } else {
-        let end = last_in(threads, front);
-        put_thread(threads, k, queued_in(q));
-        put(threads, 3 * (end as usize) + 2, k);
+impl Chains {
+    // What taking from queue q finds: its front, if it has one, while the queue stays as it is until the thread is moved.
+    #[tactic(auto, unfolding(crate::specs::Model::Access::taken))]
+    pub fn take(&self, q: u8) -> Option<Front>
+        ensures { result ≡ taken self.now q }
+    {
+        let first = at(&self.firsts, q as usize);
+        let front = Front {
+            thread: first,
+            rest: at(&self.threads, first as usize).next,
+        };
+        if first == 0 { None } else { Some(front) }
     }
-}
 
-pub fn bytes_of(threads: [Thread; 33]) -> [u8; 99]
-    ensures { result ≡ bytes_of threads }
-{
-    let mut bytes = [0u8; 99];
-    for k in 0..33u8 {
-        put_thread(&mut bytes, k, threads[k as usize]);
+    // The thread at the end of the chain from first: no chain has more than 32 links.
+    fn last(&self, first: u8) -> u8
+        ensures { result ≡ last_from self.now.threads 32 first }
+    {
+        let mut k = first;
+        for _ in 0..32u8 {
+            let next = at(&self.threads, k as usize).next;
+            if next == 0 {
+                return k;
+            }
+            k = next;
+        }
+        k
     }
-    bytes
-}
 
-fn thread_in(bytes: &[u8], k: u8) -> Thread
-    ensures { result ≡ thread_from bytes.now k }
-{
-    let i = 3 * (k as usize);
-    Thread {
-        status: at(bytes, i),
-        holder: at(bytes, i + 1),
-        next: at(bytes, i + 2),
+    // Thread k leaves the front of queue q, whose chain then begins at rest, and is t.
+    #[tactic(auto, unfolding(crate::specs::Model::Access::removed))]
+    pub fn remove(&mut self, q: u8, k: u8, rest: u8, t: Thread)
+        ensures { self.new ≡ removed self.old q k rest t }
+    {
+        put(&mut self.firsts, q as usize, rest);
+        put(&mut self.threads, k as usize, t);
     }
-}
 
-pub fn threads_of(bytes: &[u8]) -> [Thread; 33]
-    ensures { result ≡ tabulate (thread_from bytes.now) 0 33 }
-{
-    array::from_fn(|k| thread_in(bytes, k as u8))
+    // Thread k joins queue q's end.
+    #[tactic(auto, unfolding(crate::specs::Model::Access::joined))]
+    pub fn join(&mut self, q: u8, k: u8)
+        ensures { self.new ≡ joined self.old q k }
+    {
+        let front = at(&self.firsts, q as usize);
+        if front == 0 {
+            put(&mut self.threads, k as usize, queued_in(q));
+            put(&mut self.firsts, q as usize, k);
+        } else {
+            let last = self.last(front);
+            put(&mut self.threads, k as usize, queued_in(q));
+            let before = at(&self.threads, last as usize);
+            put(
+                &mut self.threads,
+                last as usize,
+                Thread { next: k, ..before },
+            );
+        }
+    }
+
+    // Thread k becomes t, in no queue.
+    #[tactic(auto, unfolding(crate::specs::Model::Access::placed))]
+    pub fn place(&mut self, k: u8, t: Thread)
+        ensures { self.new ≡ placed self.old k t }
+    {
+        put(&mut self.threads, k as usize, t);
+    }
 }

@@ -2,7 +2,7 @@
 -- Assumes nothing.
 use Prim.Native.Nat.{ℕ, zero, suc, ◌+◌, ◌-◌, ◌*◌, ◌/◌, ◌<◌}
 use mathlib.Core.Bool.{Bool, true, false, not, ◌&&◌, ◌||◌, or-true, true≢false}
-use mathlib.Core.List.{List, [], ◌∷◌}
+use mathlib.Core.List.{List}
 use mathlib.Core.Logic.{◌⊎◌, inl, inr}
 use mathlib.Core.Path.{◌≡◌, refl, sym, ap, ◌∙◌}
 use native.Mathlib.Omega.{arith}
@@ -13,26 +13,16 @@ use borrow.Author.Tests.{eq-eqb, ne_eqb, le-leb, lt-leb, leb-false, eqb-true, eq
 use Rattle.reference.specs.Lists.{choose, in_range}
 use Rattle.reference.specs.Refusal.{refuse}
 use Rattle.reference.specs.Cause.{Facts}
-use Rattle.state.specs.declared.Thread.{Thread}
+use Rattle.state.specs.declared.Chains.{Chains}
 use Rattle.state.specs.declared.Processor.{Processor}
 use Rattle.state.specs.declared.Mutex.{Mutex}
 use Rattle.state.specs.declared.State.{State}
-use Rattle.state.specs.Record.{zero_mutex, processor_in, mutex_in, processor_of, mutex_of, thread_of, Sized}
-use Rattle.state.specs.Model.Access.{bytes_of, with_applied}
-use Rattle.state.proofs.Bytes.{taken-bytes, bytes-status, bytes-length}
+use Rattle.state.specs.Record.{zero_mutex, processor_of, thread_of}
 use Rattle.step.specs.declared.View.{View}
 use Rattle.step.specs.declared.Effect.{Effect}
 use Rattle.step.specs.declared.Sizes.{Sizes}
-use Rattle.step.specs.Model.Moves.{Run, Moved, Decision, target_of, index_of, view_of, seen_of, carried, carried_firsts, carried_threads, act_effect, up_to, gathered_of, owns_none, facts_of, move_view, cause_of, cause_seen, tried, step_breaks_of, refusal_of, stepped_of, moved_of, moved_at, sizes_of, act_outcome, refusal_seen, decision, ran, run_from, run_of, noted, noted_at, counted_from, counted_of}
+use Rattle.step.specs.Model.Moves.{Run, Moved, Decision, target_of, put_effect, carried, act_effect, up_to, owns_none, facts_of, move_view, cause_of, cause_seen, tried, step_breaks_of, refusal_of, stepped_of, moved_of, moved_at, sizes_of, act_outcome, refusal_seen, decision, ran, run_from, run_of, noted, noted_at, counted_from, counted_of}
 use Rattle.step.proofs.Keeps.{keeps}
-use Rattle.step.proofs.Put.{carried_first, carried-bytes, length-firsts, length-threads}
-
--- ---- what a move sees
-
-seen_view : (s : State) (p m : ℕ) (b : List ℕ) (r : Processor) (x : Mutex) → b ≡ bytes_of s.chains.threads → r ≡ processor_of s p → x ≡ mutex_of s m →
-    seen_of s.chains.firsts b s.stealing s.p p r m x ≡ view_of s p m
-seen_view s p m b r x b-is r-is x-is =
-    rw (b-is, r-is, x-is, taken-bytes s.chains m, taken-bytes s.chains (index_of s.stealing s.p p (processor_of s p)))
 
 -- ---- why it is refused
 
@@ -238,41 +228,85 @@ decided s p a o = by (eqb n 0) (eqb n 21) refl refl
         let w : c ≡ n = sym cause-is ∙ ap (λ (b : Bool). choose (b && free) 0 n) f in
         cause-is ∙ sym (ap (λ (b : Bool). choose b (choose (step_breaks_of s p a) 15 0) c) (ap (λ (k : ℕ). eqb k 0) w ∙ e))
 
--- ---- what it makes
+-- ---- the move in place
 
 module _ (s : State) (p a o : ℕ) where
   -- the mutex that it works on
-  abbrev at : ℕ
+  abbrev pub at : ℕ
   at = target_of a (processor_of s p).mutex o
 
-  abbrev e : Effect
-  e = act_effect a o (move_view s p a o)
+  -- whether its thread is free of mutexes
+  abbrev pub free : Bool
+  free = owns_none s.mutexes s.m (processor_of s p).current
 
-  pub stepped_is : gathered_of s (carried_firsts s.chains.firsts e.transfer) (carried s.chains p e.transfer).threads (set s.processors p e.proc)
-      (set s.mutexes at e.mutex) (up_to 65535 s.applied) ≡ stepped_of s p a o
-  unfolding stepped_of
-  stepped_is = rw (carried_first s.chains p e.transfer)
+  -- the parts of the record put back: chains and mutexes first, then registers and count
+  pub parts : (e : Effect) (c : Chains) (xs : List Mutex) (s' : State) (ps : List Processor) (n : ℕ) → c ≡ carried s.chains p e.transfer → xs ≡ set s.mutexes at e.mutex →
+      s' ≡ record { p = s.p; t = s.t; m = s.m; stealing = s.stealing; applied = s.applied; chains = c; processors = s.processors; mutexes = xs } →
+      ps ≡ set s'.processors p e.proc → n ≡ up_to 65535 s'.applied →
+      record { p = s'.p; t = s'.t; m = s'.m; stealing = s'.stealing; applied = n; chains = s'.chains; processors = ps; mutexes = s'.mutexes } ≡ put_effect s p at e
+  parts e c xs s' ps n c-is xs-is s'-is ps-is n-is = rw (ps-is, n-is, s'-is, c-is, xs-is)
+
+  -- its decision, and its refusal once it is asked that
+  module _ (d : Decision) (d-is : d ≡ decision (sizes_of s) (move_view s p a o) (thread_of s o).status a o) (n : ℕ) (n_is : n ≡ cleared free d.refusal) where
+    refusal_is : n ≡ refusal_of s p a o
+    unfolding decision
+    refusal_is = n_is ∙ ap (λ (q : Decision). cleared free q.refusal) d-is ∙ decided s p a o
+
+    pub stays : (n ≡ 0 → ⊥) → record { refusal = n; state = s } ≡ moved_of s p a o
+    unfolding moved_of
+    stays z = rw (← refusal_is, ne_eqb n 0 z)
+
+    module _ (z : n ≡ 0) where
+      accepts : tried (refusal_seen (sizes_of s) (move_view s p a o) (thread_of s o).status a o) ≡ true
+      unfolding decision
+      accepts =
+          cleared_tried free (refusal_seen (sizes_of s) (move_view s p a o) (thread_of s o).status a o)
+          (ap (cleared free) (sym (ap (λ (q : Decision). q.refusal) d-is)) ∙ sym n_is ∙ z)
+
+      effect_is : d.effect ≡ act_effect a o (move_view s p a o)
+      unfolding decision act_outcome
+      effect_is = ap (λ (q : Decision). q.effect) d-is ∙ rw accepts
+
+      writes-is : d.writes ≡ (act_outcome s.t a o (move_view s p a o)).writes
+      unfolding decision
+      writes-is = ap (λ (q : Decision). q.writes) d-is ∙ rw accepts
+
+      -- a mutex that is not written is as it was
+      pub unwritten : d.writes ≡ false → s.mutexes ≡ set s.mutexes at d.effect.mutex
+      unwritten w =
+          sym (ap (set s.mutexes at) (ap (λ (q : Effect). q.mutex) effect_is ∙ keeps s.t a o (move_view s p a o) (sym writes-is ∙ w)) ∙
+          set-get_or s.mutexes at zero_mutex)
+
+      pub goes : (after : State) → after ≡ put_effect s p at d.effect → record { refusal = 0; state = after } ≡ moved_of s p a o
+      unfolding moved_of stepped_of
+      goes after e = rw (← refusal_is, z, e, effect_is)
+
+-- a move that is refused leaves the record
+pub left_alone : (s : State) (p a o n : ℕ) (after : State) → record { refusal = n; state = after } ≡ moved_of s p a o → (n ≡ 0 → ⊥) → after ≡ s
+unfolding moved_of
+left_alone s p a o n after e z =
+    ap (λ (x : Moved). x.state) e ∙ rw (ne_eqb (refusal_of s p a o) 0 (λ q. z (ap (λ (x : Moved). x.refusal) e ∙ q)))
 
 -- ---- one more move, a refused one, and the end
 
-module _ (j : List ℕ) (n i : ℕ) (s : State) (h : i < n) where
-  abbrev refusal : ℕ
-  refusal = refusal_of s (get_or j (3 * i) 0) (get_or j (3 * i + 1) 0) (get_or j (3 * i + 2) 0)
+abbrev refusal : List ℕ → ℕ → State → ℕ
+refusal j i s = refusal_of s (get_or j (3 * i) 0) (get_or j (3 * i + 1) 0) (get_or j (3 * i + 2) 0)
 
-  pub run_more : refusal ≡ 0 →
+module _ (j : List ℕ) (n i : ℕ) (s : State) (h : i < n) where
+  pub run_more : refusal j i s ≡ 0 →
       run_from j (n - i) i s ≡ run_from j (n - (i + 1)) (i + 1) (stepped_of s (get_or j (3 * i) 0) (get_or j (3 * i + 1) 0) (get_or j (3 * i + 2) 0))
   unfolding run_from moved_of
   run_more z =
       let k : n - i ≡ suc (n - (i + 1)) = omega arith in
       rw (k, z)
 
-  pub run-stop : (refusal ≡ 0 → ⊥) → run_from j (n - i) i s ≡ ran refusal i s
+  pub run-stop : (refusal j i s ≡ 0 → ⊥) → run_from j (n - i) i s ≡ ran (refusal j i s) i s
   unfolding run_from moved_of
   run-stop z =
       let k : n - i ≡ suc (n - (i + 1)) = omega arith in
       rw (k, ne_eqb _ 0 z)
 
-  pub counted_more : (calls : List ℕ) → refusal ≡ 0 →
+  pub counted_more : (calls : List ℕ) → refusal j i s ≡ 0 →
       counted_from j (n - i) i s calls ≡
       counted_from j (n - (i + 1)) (i + 1) (stepped_of s (get_or j (3 * i) 0) (get_or j (3 * i + 1) 0) (get_or j (3 * i + 2) 0)) (noted_at s j i calls)
   unfolding counted_from moved_of
@@ -280,7 +314,7 @@ module _ (j : List ℕ) (n i : ℕ) (s : State) (h : i < n) where
       let k : n - i ≡ suc (n - (i + 1)) = omega arith in
       rw (k, z)
 
-  pub counted_stop : (calls : List ℕ) → (refusal ≡ 0 → ⊥) → counted_from j (n - i) i s calls ≡ calls
+  pub counted_stop : (calls : List ℕ) → (refusal j i s ≡ 0 → ⊥) → counted_from j (n - i) i s calls ≡ calls
   unfolding counted_from moved_of
   counted_stop calls z =
       let k : n - i ≡ suc (n - (i + 1)) = omega arith in
@@ -356,237 +390,45 @@ module _ (j : List ℕ) (G : ℕ → State → List ℕ → Type 0) (last : ℕ)
         by true t on = on (more i s calls g (omega arith) (eqb-true here.refusal 0 t))
         by false t on = record { reached = g; whole = λ z. absurd (eqb-false here.refusal 0 t z); part = λ z. omega arith; cause = λ z. refl }
 
--- one move by itself
-pub moved-is : (s : State) (p a o : ℕ) →
-    record { refusal = (run_of s (p ∷ a ∷ o ∷ [])).refusal; state = (run_of s (p ∷ a ∷ o ∷ [])).state } ≡ moved_of s p a o
-unfolding run_from moved_of
-moved-is s p a o = by (eqb (refusal_of s p a o) 0) refl
-  where
-    by : (b : Bool) → eqb (refusal_of s p a o) 0 ≡ b →
-        ◌≡◌ {A = Moved}
-        (record {
-          refusal = (choose {A = Run} b (ran 0 1 (choose b (stepped_of s p a o) s)) (ran (refusal_of s p a o) 0 s)).refusal;
-          state = (choose {A = Run} b (ran 0 1 (choose b (stepped_of s p a o) s)) (ran (refusal_of s p a o) 0 s)).state;
-        })
-        (record { refusal = refusal_of s p a o; state = choose b (stepped_of s p a o) s })
-    by true e = ap (λ (n : ℕ). record { refusal = n; state = stepped_of s p a o }) (sym (eqb-true (refusal_of s p a o) 0 e))
-    by false e = refl
+-- ---- the code's run, after i moves; first: the calls before the run
 
--- ---- the code's run, after i moves: s has the count of moves applied, the other parts are apart; first: the calls before the run
+pub record Running (start : State) (j first : List ℕ) (i : ℕ) (s : State) (calls : List ℕ) : Type 0 where
+  pub left : run_from j (length j / 3 - i) i s ≡ run_of start j
+  pub uncounted : counted_from j (length j / 3 - i) i s calls ≡ counted_of start j first
 
-pub record Running (start : State) (j first : List ℕ) (i : ℕ) (s : State) (calls f b : List ℕ) (ps : List Processor) (xs : List Mutex) : Type 0 where
-  pub threads : List Thread
-  pub bytes : b ≡ bytes_of threads
-  pub firsts-size : length f ≡ 17
-  pub threads-size : length threads ≡ 33
-  pub processors-size : length ps ≡ 9
-  pub mutexes-size : length xs ≡ 9
-  pub left : run_from j (length j / 3 - i) i (gathered_of s f threads ps xs s.applied) ≡ run_of start j
-  pub uncounted : counted_from j (length j / 3 - i) i (gathered_of s f threads ps xs s.applied) calls ≡ counted_of start j first
+pub running_start : (start : State) (j first : List ℕ) → Running start j first 0 start first
+running_start start j first = let z : length j / 3 - 0 ≡ length j / 3 = omega arith in record { left = rw z; uncounted = rw z }
 
-pub running_start : (start : State) (j first b : List ℕ) → Sized start → b ≡ bytes_of start.chains.threads →
-    Running start j first 0 start first start.chains.firsts b start.processors start.mutexes
-running_start start j first b size e =
-    let z : length j / 3 - 0 ≡ length j / 3 = omega arith in
-    record {
-      threads = start.chains.threads;
-      bytes = e;
-      firsts-size = size.firsts;
-      threads-size = size.threads;
-      processors-size = size.processors;
-      mutexes-size = size.mutexes;
-      left = rw z;
-      uncounted = rw z;
-    }
-
-module _ (start : State) (j first : List ℕ) (i : ℕ) (s : State) (calls f b : List ℕ) (ps : List Processor) (xs : List Mutex)
-    (g : Running start j first i s calls f b ps xs) where
-  -- the record whose parts these are
-  abbrev pub record_of : State
-  record_of = gathered_of s f g.threads ps xs s.applied
-
-  pub bytes-size : length b ≡ 99
-  bytes-size = omega (arith, ap length g.bytes, bytes-length g.threads, g.threads-size)
-
-  pub calls-size : length calls ≡ length first
-  calls-size = sym (length-counted j _ i record_of calls) ∙ ap length g.uncounted ∙ length-counted j _ 0 start first
-
-  pub running_end : i ≡ length j / 3 → (ran 0 i record_of ≡ run_of start j) × (calls ≡ counted_of start j first)
+module _ (start : State) (j first : List ℕ) (i : ℕ) (s : State) (calls : List ℕ) (g : Running start j first i s calls) where
+  pub running_end : i ≡ length j / 3 → (ran 0 i s ≡ run_of start j) × (calls ≡ counted_of start j first)
   running_end e = (
-    sym (run_end j i record_of) ∙ ap (λ (n : ℕ). run_from j (n - i) i record_of) e ∙ g.left,
-    sym (counted-end j i record_of calls) ∙ ap (λ (n : ℕ). counted_from j (n - i) i record_of calls) e ∙ g.uncounted,
+    sym (run_end j i s) ∙ ap (λ (n : ℕ). run_from j (n - i) i s) e ∙ g.left,
+    sym (counted-end j i s calls) ∙ ap (λ (n : ℕ). counted_from j (n - i) i s calls) e ∙ g.uncounted,
   )
 
--- the next move, as the code has read it: its processor, its mutex, what it sees
-pub record Reading (start : State) (j first : List ℕ) : Type 0 where
-  pub made : ℕ
-  pub state : State
-  pub calls : List ℕ
-  pub firsts : List ℕ
-  pub bytes : List ℕ
-  pub processors : List Processor
-  pub mutexes : List Mutex
-  pub running : Running start j first made state calls firsts bytes processors mutexes
-  pub more : made < length j / 3
-  pub processor : Processor
-  pub target : ℕ
-  pub mutex : Mutex
-  pub view : View
-  pub processor-is : processor ≡ processor_in processors (get_or j (3 * made) 0)
-  pub target_is : target ≡ target_of (get_or j (3 * made + 1) 0) processor.mutex (get_or j (3 * made + 2) 0)
-  pub mutex-is : mutex ≡ mutex_in mutexes target
-  pub view-is : view ≡ seen_of firsts bytes state.stealing state.p (get_or j (3 * made) 0) processor target mutex
-  pub sizes : Sizes
-  pub sizes_is : sizes ≡ sizes_of state
+  -- the next move's answer, with what it leaves
+  module _ (h : i < length j / 3) (n : ℕ) (after : State) (e : record { refusal = n; state = after } ≡ moved_at s j i) where
+    refused : n ≡ (moved_at s j i).refusal
+    refused = ap (λ (x : Moved). x.refusal) e
 
-module _ {start : State} {j first : List ℕ} (here : Reading start j first) where
-  abbrev i : ℕ
-  i = here.made
+    leaves : after ≡ (moved_at s j i).state
+    leaves = ap (λ (x : Moved). x.state) e
 
-  abbrev s : State
-  s = here.state
+    pub running_stop : (n ≡ 0 → ⊥) → (ran n i after ≡ run_of start j) × (calls ≡ counted_of start j first)
+    unfolding moved_of
+    running_stop z =
+        let none : refusal j i s ≡ 0 → ⊥ = λ q. z (refused ∙ q) in
+        let same = left_alone s _ _ _ n after e z in (
+          ap (λ (x : State). ran n i x) same ∙ ap (λ (k : ℕ). ran k i s) refused ∙ sym (run-stop j (length j / 3) i s h none) ∙ g.left,
+          sym (counted_stop j (length j / 3) i s h calls none) ∙ g.uncounted,
+        )
 
-  abbrev calls : List ℕ
-  calls = here.calls
-
-  abbrev f : List ℕ
-  f = here.firsts
-
-  abbrev b : List ℕ
-  b = here.bytes
-
-  abbrev ps : List Processor
-  ps = here.processors
-
-  abbrev xs : List Mutex
-  xs = here.mutexes
-
-  abbrev g : Running start j first i s calls f b ps xs
-  g = here.running
-
-  abbrev r : Processor
-  r = here.processor
-
-  abbrev m : ℕ
-  m = here.target
-
-  abbrev v : View
-  v = here.view
-
-  abbrev p : ℕ
-  p = get_or j (3 * i) 0
-
-  abbrev a : ℕ
-  a = get_or j (3 * i + 1) 0
-
-  abbrev o : ℕ
-  o = get_or j (3 * i + 2) 0
-
-  -- the record that it is made on
-  abbrev whole : State
-  whole = record_of start j first i s calls f b ps xs g
-
-  target_is : m ≡ at whole p a o
-  target_is = here.target_is ∙ ap (λ (q : Processor). target_of a q.mutex o) here.processor-is
-
-  sees : v ≡ move_view whole p a o
-  sees =
-      here.view-is ∙ seen_view whole p m b r here.mutex g.bytes here.processor-is here.mutex-is ∙ ap (view_of whole p) target_is
-
-  -- refused by k, whatever the cause
-  stopped : (k : ℕ) → k ≡ refusal_of whole p a o → (k ≡ 0 → ⊥) → (ran k i whole ≡ run_of start j) × (calls ≡ counted_of start j first)
-  stopped k e z = (
-    ap (λ (n : ℕ). ran n i whole) e ∙ sym (run-stop j (length j / 3) i whole here.more (λ q. z (e ∙ q))) ∙ g.left,
-    sym (counted_stop j (length j / 3) i whole here.more calls (λ q. z (e ∙ q))) ∙ g.uncounted,
-  )
-
-  -- its decision, and its refusal once it is asked whether the thread is free of mutexes
-  module _ (d : Decision) (d-is : d ≡ decision here.sizes v (get_or b (3 * o) 0) a o) (n : ℕ) (n_is : n ≡ cleared (owns_none xs s.m r.current) d.refusal) where
-    decides : d ≡ decision (sizes_of whole) (move_view whole p a o) (thread_of whole o).status a o
-    decides =
-        d-is ∙
-        ap (λ (q : Sizes). decision q v (get_or b (3 * o) 0) a o) here.sizes_is ∙
-        ap (λ (q : View). decision (sizes_of s) q (get_or b (3 * o) 0) a o) sees ∙
-        ap (λ (k : ℕ). decision (sizes_of s) (move_view whole p a o) k a o)
-        (ap (λ (l : List ℕ). get_or l (3 * o) 0) g.bytes ∙ bytes-status g.threads o)
-
-    refusal_is : n ≡ refusal_of whole p a o
-    unfolding decision
-    refusal_is =
-        n_is ∙
-        ap (λ (q : Processor). cleared (owns_none xs s.m q.current) d.refusal) here.processor-is ∙
-        ap (λ (q : Decision). cleared (owns_none xs s.m (processor_of whole p).current) q.refusal) decides ∙
-        decided whole p a o
-
-    pub running_stop : (n ≡ 0 → ⊥) → (ran n i whole ≡ run_of start j) × (calls ≡ counted_of start j first)
-    running_stop = stopped n refusal_is
-
-    module _ (z : n ≡ 0) where
-      accepts : tried (refusal_seen here.sizes v (get_or b (3 * o) 0) a o) ≡ true
-      unfolding decision
-      accepts =
-          cleared_tried (owns_none xs s.m r.current) (refusal_seen here.sizes v (get_or b (3 * o) 0) a o)
-          (ap (cleared (owns_none xs s.m r.current)) (sym (ap (λ (q : Decision). q.refusal) d-is)) ∙ sym n_is ∙ z)
-
-      effect_is : d.effect ≡ act_effect a o v
-      unfolding decision act_outcome
-      effect_is = ap (λ (q : Decision). q.effect) d-is ∙ rw accepts
-
-      writes-is : d.writes ≡ (act_outcome here.sizes.t a o v).writes
-      unfolding decision
-      writes-is = ap (λ (q : Decision). q.writes) d-is ∙ rw accepts
-
-      -- a mutex that is not written is as it was
-      pub unwritten : d.writes ≡ false → xs ≡ set xs m d.effect.mutex
-      unwritten w =
-          sym (ap (set xs m) (ap (λ (q : Effect). q.mutex) effect_is ∙ keeps here.sizes.t a o v (sym writes-is ∙ w) ∙ ap (λ (q : View). q.mutex) here.view-is ∙ here.mutex-is) ∙
-          set-get_or xs m zero_mutex)
-
-      module _ (after : State) (calls' f' b' : List ℕ) (ps' : List Processor) (xs' : List Mutex)
-          (after_is : after ≡ with_applied (up_to 65535 s.applied) s) (calls_is : calls' ≡ choose (eqb a 0) calls (noted calls r.current))
-          (f-is : f' ≡ carried_firsts f d.effect.transfer) (b-is : b' ≡ carried_threads f b p d.effect.transfer)
-          (ps-is : ps' ≡ set ps p d.effect.proc) (xs-is : xs' ≡ set xs m d.effect.mutex) where
-        accepted : refusal_of whole p a o ≡ 0
-        accepted = sym refusal_is ∙ z
-
-        abbrev threads-after : Effect → List Thread
-        threads-after q = (carried whole.chains p q.transfer).threads
-
-        abbrev made : Effect → ℕ → State
-        made q w = gathered_of whole (carried_firsts f q.transfer) (threads-after q) (set ps p q.proc) (set xs w q.mutex) (up_to 65535 s.applied)
-
-        makes : made d.effect m ≡ stepped_of whole p a o
-        makes =
-            ap (λ (q : Effect). made q m) (effect_is ∙ ap (act_effect a o) sees) ∙
-            ap (made (act_effect a o (move_view whole p a o))) target_is ∙
-            stepped_is whole p a o
-
-        gathers : gathered_of after f' (threads-after d.effect) ps' xs' after.applied ≡ made d.effect m
-        gathers = rw (after_is, f-is, ps-is, xs-is)
-
-        bytes_more : b' ≡ bytes_of (threads-after d.effect)
-        bytes_more = b-is ∙ ap (λ (l : List ℕ). carried_threads f l p d.effect.transfer) g.bytes ∙ carried-bytes whole.chains p d.effect.transfer
-
-        notes : calls' ≡ noted_at whole j i calls
-        notes = calls_is ∙ ap (λ (q : Processor). choose (eqb a 0) calls (noted calls q.current)) here.processor-is
-
-        pub running_more : Running start j first (i + 1) after calls' f' b' ps' xs'
-        running_more =
-            record {
-              threads = threads-after d.effect;
-              bytes = bytes_more;
-              firsts-size = ap length f-is ∙ length-firsts f d.effect.transfer ∙ g.firsts-size;
-              threads-size =
-                  omega (arith, ap length bytes_more, bytes-length (threads-after d.effect), ap length b-is, length-threads b f p d.effect.transfer, bytes-size start j first i s calls f b ps xs g);
-              processors-size = ap length ps-is ∙ length-set ps p d.effect.proc ∙ g.processors-size;
-              mutexes-size = ap length xs-is ∙ length-set xs m d.effect.mutex ∙ g.mutexes-size;
-              left =
-                  ap (run_from j (length j / 3 - (i + 1)) (i + 1)) (gathers ∙ makes) ∙
-                  sym (run_more j (length j / 3) i whole here.more accepted) ∙
-                  g.left;
-              uncounted =
-                  ap (λ (q : State). counted_from j (length j / 3 - (i + 1)) (i + 1) q calls') (gathers ∙ makes) ∙
-                  ap (counted_from j (length j / 3 - (i + 1)) (i + 1) (stepped_of whole p a o)) notes ∙
-                  sym (counted_more j (length j / 3) i whole here.more calls accepted) ∙
-                  g.uncounted;
-            }
+    pub running_more : (calls' : List ℕ) → n ≡ 0 → calls' ≡ noted_at s j i calls → Running start j first (i + 1) after calls'
+    unfolding moved_of
+    running_more calls' z c =
+        let none : refusal j i s ≡ 0 = sym refused ∙ z in
+        let next : after ≡ stepped_of s (get_or j (3 * i) 0) (get_or j (3 * i + 1) 0) (get_or j (3 * i + 2) 0) = leaves ∙ rw none in
+        record {
+          left = ap (run_from j (length j / 3 - (i + 1)) (i + 1)) next ∙ sym (run_more j (length j / 3) i s h none) ∙ g.left;
+          uncounted = rw (next, c) (sym (counted_more j (length j / 3) i s h calls none) ∙ g.uncounted);
+        }

@@ -1,7 +1,6 @@
 -- What the proofs of the functions share, and the theory that ties the code to the reference machine.
 pub mod Match
 pub mod Keeps
-pub mod Put
 pub mod Ring
 pub mod InPlace
 pub mod Split

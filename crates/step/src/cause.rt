@@ -3,14 +3,15 @@
 ghost use Rattle.std.specs.Prelude.{◌≡◌, ◌*◌, get_or, true, false, ◌&&◌, ◌||◌, not, eqb, ltb};
 ghost use Rattle.reference.specs.Refusal.{not_new, refuse};
 ghost use Rattle.reference.specs.Cause.{first_cause};
+ghost use Rattle.state.specs.Record.{thread_in};
 ghost use Rattle.state.specs.Refusal.{outcome};
 ghost use Rattle.step.specs.Model.Moves.{operand_fits, facts_of, cause_seen, owns_none};
 
 use crate::{Sizes, View};
-use state::queues::status_in;
+use state::access::at;
 use state::range::in_range;
 use state::refusal::Refusal;
-use state::{Mutex, Position};
+use state::{Mutex, Position, Thread};
 
 // The operand of a call on a mutex is a mutex, that of create a thread, that of the others 0.
 pub(crate) fn operand_fits(z: Sizes, action: u8, operand: u8) -> bool
@@ -51,10 +52,10 @@ pub(crate) fn go_refusal(z: Sizes, v: View, operand: u8) -> Result<(), Refusal>
 
 // A create is of a new thread, whose status is 0. Only a create reads a status.
 #[tactic(auto, unfolding(state::specs::Refusal::outcome, state::specs::Refusal::number))]
-pub(crate) fn create_refusal(threads: &[u8], action: u8, operand: u8) -> Result<(), Refusal>
-    ensures { outcome result ≡ refuse (eqb action 6 && not (eqb (get_or threads.now (3 * operand) 0) 0)) not_new 0 }
+pub(crate) fn create_refusal(threads: &[Thread], action: u8, operand: u8) -> Result<(), Refusal>
+    ensures { outcome result ≡ refuse (eqb action 6 && not (eqb (thread_in threads.now operand).status 0)) not_new 0 }
 {
-    if (action == 6) && (status_in(threads, operand) != 0) {
+    if (action == 6) && (at(threads, operand as usize).status != 0) {
         return Err(Refusal::NotNew);
     }
     Ok(())
@@ -84,13 +85,13 @@ pub(crate) fn owns_none(mutexes: [Mutex; 9], m: u8, k: u8) -> bool
 // A call of a processor that is there: it is made at App only, and unlock by the owner.
 #[tactic(auto, unfolding(state::specs::Refusal::outcome, state::specs::Refusal::number))]
 pub(crate) fn call_refusal(
-    threads: &[u8],
+    threads: &[Thread],
     z: Sizes,
     v: View,
     action: u8,
     operand: u8,
 ) -> Result<(), Refusal>
-    ensures { outcome result ≡ first_cause (facts_of true false z v false (get_or threads.now (3 * operand) 0) action operand) }
+    ensures { outcome result ≡ first_cause (facts_of true false z v false (thread_in threads.now operand).status action operand) }
 {
     let r = v.proc;
     let x = v.mutex;
@@ -110,16 +111,16 @@ pub(crate) fn call_refusal(
     create_refusal(threads, action, operand)
 }
 
-// The threads are bytes, and the operand names one of them.
+// The operand names a thread.
 #[tactic(auto, unfolding(state::specs::Refusal::outcome, state::specs::Refusal::number, crate::specs::Model::Moves::cause_seen))]
 pub(crate) fn cause(
-    threads: &[u8],
+    threads: &[Thread],
     z: Sizes,
     v: View,
     action: u8,
     operand: u8,
 ) -> Result<(), Refusal>
-    ensures { outcome result ≡ cause_seen z v false (get_or threads.now (3 * operand) 0) action operand }
+    ensures { outcome result ≡ cause_seen z v false (thread_in threads.now operand).status action operand }
 {
     if !in_range(1, z.p, v.number) {
         return Err(Refusal::NoProcessor);

@@ -1,24 +1,26 @@
 // A move's decision: from what its processor sees, why it is refused or what it makes of that.
 ghost use Rattle.std.specs.Prelude.{◌≡◌, false, ◌*◌, get_or, eqb};
 ghost use Rattle.reference.specs.Refusal.{still_owner};
+ghost use Rattle.state.specs.Record.{thread_in};
 ghost use Rattle.state.specs.Refusal.{outcome};
 ghost use Rattle.step.specs.Model.Moves.{decided, decision};
 
 use crate::cause::cause;
 use crate::line::act;
 use crate::{Decision, Sizes, View};
+use state::Thread;
 use state::refusal::Refusal;
 
 // The first cause that is there before the move is tried, then 15, else its effect. Whether the thread of an exit owns a mutex is for `run` to ask: 21 is no answer here.
-// The threads are bytes, and the operand names one of them.
+// The operand names a thread.
 pub(crate) fn decide(
-    threads: &[u8],
+    threads: &[Thread],
     z: Sizes,
     v: View,
     action: u8,
     operand: u8,
 ) -> Result<Decision, Refusal>
-    ensures decision { decided v action result ≡ decision z v (get_or threads.now (3 * operand) 0) action operand }
+    ensures decision { decided v action result ≡ decision z v (thread_in threads.now operand).status action operand }
     ensures unasked { eqb (outcome result) still_owner ≡ false }
 {
     cause(threads, z, v, action, operand)?;

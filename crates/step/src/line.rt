@@ -1,17 +1,10 @@
 // Go executes the line at which the processor stands; a move is a go or a call.
 ghost use Rattle.std.specs.Prelude.{◌≡◌, true, false};
-ghost use Rattle.step.specs.Model.Moves.{nothing_there, outcome, line_outcome, act_outcome};
+ghost use Rattle.step.specs.Model.Moves.{outcome, line_outcome, act_outcome};
 
 use crate::registers::stays;
 use crate::{Effect, Outcome, View, call, lock, ready, trylock, unlock};
 use state::Position;
-use state::queues::Front;
-
-fn is_empty(queue: Option<Front>) -> bool
-    ensures { result ≡ nothing_there queue }
-{
-    queue.is_none()
-}
 
 // No rule can be broken, and the mutex stays.
 fn keeps(effect: Effect) -> Outcome
@@ -53,7 +46,7 @@ pub(crate) fn line(t: u8, v: View) -> Outcome
         Position::L6 => keeps(lock::l6(v)),
         Position::L7 => keeps(lock::l7(v)),
         Position::L8 => writes(false, lock::l8(v)),
-        Position::L9 => writes(is_empty(queue), lock::l9(v)),
+        Position::L9 => writes(queue.is_none(), lock::l9(v)),
         Position::L10 => keeps(lock::l10(v)),
         Position::TL1 => writes(false, trylock::tl1(v)),
         Position::GT1 => keeps(trylock::gt1(v)),

@@ -5,7 +5,6 @@ ghost use Rattle.step.specs.Model.Moves.{at_CI2, at_CI3, at_Y1, at_Y2, at_Y3, at
 use crate::registers::{away, join_ready, load, next_probe, stays};
 use crate::{Effect, Status, Transfer, View};
 use state::Position;
-use state::queues::Front;
 
 // CI2: an idle processor takes a ready thread and probes from 0 again; from an empty queue the probe moves on to the next.
 pub(crate) fn ci2(v: View) -> Effect
@@ -14,17 +13,17 @@ pub(crate) fn ci2(v: View) -> Effect
     let mut r = v.proc;
     let x = v.mutex;
     let ready = v.ready;
-    let Some(Front { thread: k, rest }) = ready else {
+    let Some(front) = ready else {
         let n = next_probe(v.queues, r.probe);
         r.probe = n;
         return stays(away(r, Position::CI2), x);
     };
-    r.transit = k;
+    r.transit = front.thread;
     r.probe = 0;
     Effect {
         proc: away(r, Position::CI3),
         mutex: x,
-        transfer: Transfer::Take(v.index, k, rest),
+        transfer: Transfer::Take(v.index, front.thread, front.rest),
     }
 }
 

@@ -4,6 +4,7 @@ ghost use Rattle.state.specs.Record.{zero_token};
 ghost use Rattle.step.specs.Model.Moves.{up_to, next_probe, same_tokens, away, on_mutex, observing, tokened, effect, load, join_ready, serve};
 
 use crate::{Effect, Status, Transfer, View};
+use state::queues::Front;
 use state::{Mutex, Position, Processor, Token};
 
 // One more, or the same at the largest number.
@@ -169,17 +170,17 @@ pub(crate) fn join_ready(v: View, position: u8) -> Effect
     }
 }
 
-// Thread k, the first of the mutex's queue, is in transit and owns the mutex.
-pub(crate) fn serve(v: View, k: u8, rest: u8, position: u8) -> Effect
-    ensures { result ≡ serve k rest position v }
+// The first thread of the mutex's queue is in transit and owns the mutex.
+pub(crate) fn serve(v: View, front: Front, position: u8) -> Effect
+    ensures { result ≡ serve front.thread front.rest position v }
 {
     let mut r = v.proc;
     let mut x = v.mutex;
-    r.transit = k;
-    x.owner = k;
+    r.transit = front.thread;
+    x.owner = front.thread;
     Effect {
         proc: on_mutex(r, position),
         mutex: x,
-        transfer: Transfer::Take(r.mutex, k, rest),
+        transfer: Transfer::Take(r.mutex, front.thread, front.rest),
     }
 }

@@ -1,6 +1,6 @@
 -- What the code's reads and writes of a record compute.
 -- Assumes nothing.
-use Rattle.std.specs.Prelude.{ℕ, zero, suc, ◌+◌, ◌-◌, ◌*◌, Option, Some, None, List, [], ◌∷◌, eqb, leb, get_or, set, replicate}
+use Rattle.std.specs.Prelude.{ℕ, zero, suc, ◌+◌, ◌-◌, Option, Some, None, List, eqb, leb, get_or, set, replicate}
 use Rattle.state.specs.declared.Thread.{Thread}
 use Rattle.state.specs.declared.Processor.{Processor}
 use Rattle.state.specs.declared.Mutex.{Mutex}
@@ -106,39 +106,6 @@ joined c q k =
 -- thread k becomes t, in no queue
 unfoldable pub placed : Chains → ℕ → Thread → Chains
 placed c k t = record { firsts = c.firsts; threads = set c.threads k t }
-
--- ---- the queues in place
-
--- the threads as bytes: status, holder and next of thread k at 3k, 3k + 1 and 3k + 2
-unfoldable pub bytes_of : List Thread → List ℕ
-bytes_of [] = []
-bytes_of (t ∷ ts) = t.status ∷ t.holder ∷ t.next ∷ bytes_of ts
-
-abbrev pub thread_from : List ℕ → ℕ → Thread
-thread_from b k = record { status = get_or b (3 * k) 0; holder = get_or b (3 * k + 1) 0; next = get_or b (3 * k + 2) 0 }
-
-abbrev pub with_thread : List ℕ → ℕ → Thread → List ℕ
-with_thread b k t = set (set (set b (3 * k) t.status) (3 * k + 1) t.holder) (3 * k + 2) t.next
-
--- what taking from queue q finds: its first, with the first of the chain that remains
-abbrev pub taken_in : List ℕ → List ℕ → ℕ → Option Front
-taken_in f b q =
-    let k = get_or f q 0 in
-    choose (eqb k 0) None (Some (record { thread = k; rest = get_or b (3 * k + 2) 0 }))
-
--- the thread at the end of the chain from k, within `fuel` links
-unfoldable pub last_in : List ℕ → ℕ → ℕ → ℕ
-last_in b zero k = k
-last_in b (suc fuel) k = choose (eqb (get_or b (3 * k + 2) 0) 0) k (last_in b fuel (get_or b (3 * k + 2) 0))
-
--- thread k joins queue q's end
-abbrev pub joined_firsts : List ℕ → ℕ → ℕ → List ℕ
-joined_firsts f q k = choose (eqb (get_or f q 0) 0) (set f q k) f
-
-abbrev pub joined_threads : List ℕ → List ℕ → ℕ → ℕ → List ℕ
-joined_threads f b q k =
-    choose (eqb (get_or f q 0) 0) (with_thread b k (queued_in q))
-    (set (with_thread b k (queued_in q)) (3 * last_in b 32 (get_or f q 0) + 2) k)
 
 -- ---- the start state
 

@@ -4,14 +4,13 @@ use Rattle.std.specs.Prelude.{ℕ, zero, suc, ◌+◌, ◌-◌, ◌*◌, ◌/◌
 use Rattle.state.specs.declared.Token.{Token}
 use Rattle.state.specs.declared.Processor.{Processor}
 use Rattle.state.specs.declared.Mutex.{Mutex}
-use Rattle.state.specs.declared.Thread as thread
 use Rattle.state.specs.declared.Chains.{Chains}
 use Rattle.state.specs.declared.State.{State}
 use Rattle.state.specs.declared.queues.Front.{Front}
 use Rattle.state.specs.declared.refusal.Refusal.{Refusal}
 use Rattle.state.specs.Refusal as refusals
 use Rattle.state.specs.Record.{zero_token, mutex_in, processor_of, mutex_of, thread_of}
-use Rattle.state.specs.Model.Access.{taken_in, with_thread, joined_firsts, joined_threads, taken, removed, joined, placed, with_processor, with_mutex, with_chains, with_applied}
+use Rattle.state.specs.Model.Access.{taken, removed, joined, placed, with_processor, with_mutex, with_chains, with_applied}
 use Rattle.reference.specs.Refusal.{bad_record, still_owner}
 use Rattle.reference.specs.Lists.{choose, if_zero, in_range, around, each}
 use Rattle.reference.specs.State.{queues}
@@ -415,45 +414,6 @@ moved_shown s (Ok after) = record { refusal = 0; state = after }
 moved_shown s (Err e) = record { refusal = refusals.number e; state = s }
 
 -- ---- moves one after another, in place
-
-abbrev pub seen_of : List ℕ → List ℕ → ℕ → ℕ → ℕ → Processor → ℕ → Mutex → View
-seen_of f b stealing n p r m x =
-    let q = index_of stealing n p r in
-    record {
-      number = p;
-      proc = r;
-      mutex = x;
-      queue = taken_in f b m;
-      ready = taken_in f b q;
-      index = q;
-      queues = queues stealing n;
-    }
-
-abbrev pub carried_firsts : List ℕ → Transfer → List ℕ
-carried_firsts f Stay = f
-carried_firsts f (Take q k rest) = set f q rest
-carried_firsts f (Join q k) = joined_firsts f q k
-carried_firsts f (Mark k status holder) = f
-
-abbrev pub carried_threads : List ℕ → List ℕ → ℕ → Transfer → List ℕ
-carried_threads f b p Stay = b
-carried_threads f b p (Take q k rest) = with_thread b k (record { status = 4; holder = p; next = 0 })
-carried_threads f b p (Join q k) = joined_threads f b q k
-carried_threads f b p (Mark k status holder) = with_thread b k (record { status = status; holder = holder; next = 0 })
-
--- a record with all that a move changes
-abbrev pub gathered_of : State → List ℕ → List thread.Thread → List Processor → List Mutex → ℕ → State
-gathered_of s firsts threads processors mutexes n =
-    record {
-      p = s.p;
-      t = s.t;
-      m = s.m;
-      stealing = s.stealing;
-      applied = n;
-      chains = record { firsts = firsts; threads = threads };
-      processors = processors;
-      mutexes = mutexes;
-    }
 
 -- where a list of moves leads: why its first refused move is refused, or 0, how many moves were made, and the state after them
 pub record Run : Type 0 where

@@ -1,7 +1,9 @@
 -- `step::line::line` meets its contract: each arm is the table's line, breaks what its line may break and writes where its line may write.
 -- Assumes nothing.
 use Prim.Native.Nat.{ℕ}
-use mathlib.Core.Bool.{Bool, true, false, ◌&&◌, ◌||◌}
+use mathlib.Core.Bool.{Bool, true, false, not, ◌&&◌, ◌||◌, true≢false}
+use Rattle.std.proofs.Common.{Option, Some, None, is_some}
+use Rattle.state.specs.declared.queues.Front.{Front}
 use mathlib.Core.Path.{◌≡◌, refl, sym, ap, ◌∙◌}
 use native.Mathlib.Omega.{arith}
 use lib.Dec.{eqb, leb, ltb}
@@ -36,6 +38,12 @@ module _ (t : ℕ) (v : View) where
   none : (n : ℕ) → (n ≡ 3 → ⊥) → (n ≡ 9 → ⊥) → (n ≡ 14 → ⊥) → (n ≡ 15 → ⊥) → (n ≡ 18 → ⊥) → false ≡ broken_at n
   none n h i j k l = rw (ne_eqb n 15 k, ne_eqb n 3 h, ne_eqb n 14 j, ne_eqb n 18 l, ne_eqb n 9 i)
 
+none_seen : (q : Option Front) (b : Bool) → is_some q ≡ not b → b ≡ nothing_there q
+none_seen None true e = refl
+none_seen None false e = absurd (true≢false (sym e))
+none_seen (Some front) true e = absurd (true≢false e)
+none_seen (Some front) false e = refl
+
 or_false : (b : Bool) → b ≡ b || false
 or_false true = refl
 or_false false = refl
@@ -65,7 +73,7 @@ pub returns-in-8 : goal.returns-in-8
 returns-in-8 c = arm _ _ 8 c.in-8.is _ _ _ c.writes-in-8.ensures c.l8.ensures refl
 
 pub returns-in-9 : goal.returns-in-9
-returns-in-9 c = arm _ _ 9 c.in-9.is _ _ _ c.writes-in-9.ensures c.l9.ensures c.is_empty.ensures
+returns-in-9 c = arm _ _ 9 c.in-9.is _ _ _ c.writes-in-9.ensures c.l9.ensures (none_seen _ _ c.is_none.ensures)
 
 pub returns-in-10 : goal.returns-in-10
 returns-in-10 c = arm _ _ 10 c.in-10.is _ _ _ c.keeps-in-10.ensures c.l10.ensures refl

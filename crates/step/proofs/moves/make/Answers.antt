@@ -1,0 +1,84 @@
+-- `step::moves::make` meets its contract: what the code's decision says of a move is what the model's says.
+-- Assumes nothing.
+use Rattle.std.proofs.Common.{ℕ, Bool, List, ◌≡◌, refl, sym, ap, ◌∙◌, set, Result, Ok, Err}
+use native.Mathlib.Omega.{arith}
+use Rattle.std.proofs.lemmas.Result.{err_from_is_err_and}
+use Rattle.state.specs.declared.State.{State}
+use Rattle.state.specs.declared.Processor.{Processor}
+use Rattle.state.specs.declared.Mutex.{Mutex}
+use Rattle.state.specs.declared.refusal.Refusal.{Refusal}
+use Rattle.state.specs.Record.{processor_of, thread_of}
+use Rattle.state.specs.Refusal.{number, outcome}
+use Rattle.state.proofs.Refused.{not_none}
+use Rattle.step.specs.declared.View.{View}
+use Rattle.step.specs.declared.Sizes.{Sizes}
+use Rattle.step.specs.declared.Decision as code
+use Rattle.step.specs.Model.Moves.{target_of, view_of, move_view, sizes_of, owns_none, decided, decision}
+use Rattle.step.proofs.InPlace.{stands, owner_stays, goes_free, free, at, parts, stays, unwritten, goes}
+use Rattle.step.proofs.moves.make.Goals as goal
+use Rattle.step.proofs.moves.make.Goals.{then-done, else-done, else-action-eq5-via-then-action-eq5+else-not-owns_none, else-action-eq5-via-else-action-eq5}
+
+module _ (s : State) (p a o : ℕ) where
+  -- the mutex that it works on, and what it sees
+  target_is : (r : Processor) (m : ℕ) → r ≡ processor_of s p → m ≡ target_of a r.mutex o → m ≡ target_of a (processor_of s p).mutex o
+  target_is r m r-is m-is = m-is ∙ ap (λ (q : Processor). target_of a q.mutex o) r-is
+
+  module _ (v : View) (z : Sizes) (m : ℕ) (m-is : m ≡ target_of a (processor_of s p).mutex o) (v-is : v ≡ view_of s p m) (z-is : z ≡ sizes_of s) where
+    sees : v ≡ move_view s p a o
+    sees = v-is ∙ ap (view_of s p) m-is
+
+    at_home : (x : Result code.Decision Refusal) → decided v a x ≡ decision z v (thread_of s o).status a o →
+        decided v a x ≡ decision (sizes_of s) (move_view s p a o) (thread_of s o).status a o
+    at_home x e = e ∙ rw (z-is, sees)
+
+    asks : (b : Bool) → b ≡ owns_none s.mutexes s.m v.proc.current → b ≡ free s p a o
+    asks b e = e ∙ ap (λ (q : View). owns_none s.mutexes s.m q.proc.current) sees
+
+pub returns-in_err-done : goal.returns-in_err-done
+unfolding outcome decided
+returns-in_err-done c =
+    let t = err_from_is_err_and c.from_residual.result c.from_residual.ensures.1 in
+    let a = c.args in
+    let s = a.s.now in
+    let e = c.in_err-done.field-0.0 in
+    let m = target_is s a.p a.action a.operand c.at.result c.target-m.result c.at.ensures c.target-m.ensures in
+    let d = at_home s a.p a.action a.operand c.look-v.result c.sizes-z.result c.target-m.result m c.look-v.ensures c.sizes-z.ensures (Err e) c.in_err-done.ensures.decision in
+    rw (t.1, t.2) (stays s a.p a.action a.operand _ d (number e) (stands (free s a.p a.action a.operand) (number e) c.in_err-done.ensures.unasked) (not_none e))
+
+pub returns-then-not-owns_none : goal.returns-then-not-owns_none
+unfolding outcome number decided
+returns-then-not-owns_none c =
+    let a = c.args in
+    let s = a.s.now in
+    let m = target_is s a.p a.action a.operand c.at.result c.target-m.result c.at.ensures c.target-m.ensures in
+    let d = at_home s a.p a.action a.operand c.look-v.result c.sizes-z.result c.target-m.result m c.look-v.ensures c.sizes-z.ensures (Ok c.in_ok-done.done) c.in_ok-done.ensures.decision in
+    let owns = asks s a.p a.action a.operand c.look-v.result c.sizes-z.result c.target-m.result m c.look-v.ensures c.sizes-z.ensures c.owns_none.result c.owns_none.ensures in
+    let owner = owner_stays (free s a.p a.action a.operand) a.action c.if-action-eq5.true (sym owns ∙ c.if-not-owns_none.true) in
+    stays s a.p a.action a.operand _ d 21 owner (λ e. omega arith)
+
+pub returns : goal.returns
+unfolding outcome decided
+returns c =
+    let a = c.args in
+    let s = a.s.now in
+    let m = target_is s a.p a.action a.operand c.at.result c.target-m.result c.at.ensures c.target-m.ensures in
+    let d = at_home s a.p a.action a.operand c.look-v.result c.sizes-z.result c.target-m.result m c.look-v.ensures c.sizes-z.ensures (Ok c.in_ok-done.done) c.in_ok-done.ensures.decision in
+    let e = c.in_ok-done.done.effect in
+    let none = goes_free (free s a.p a.action a.operand) a.action
+    (elim c.else-action-eq5.branch [
+      | else-action-eq5-via-then-action-eq5+else-not-owns_none w ↦
+          λ five. sym (asks s a.p a.action a.operand c.look-v.result c.sizes-z.result c.target-m.result m c.look-v.ensures c.sizes-z.ensures w.owns_none.result w.owns_none.ensures) ∙ w.if-not-owns_none.false
+      | else-action-eq5-via-else-action-eq5 w ↦ λ five. absurd (w.if-action-eq5.false five)
+    ])
+    in
+    let same = unwritten s a.p a.action a.operand _ d 0 none refl in
+    let left : (xs : List Mutex) × (xs ≡ set s.mutexes (at s a.p a.action a.operand) e.mutex) ×
+    (c.if-done.s ≡ record { p = s.p; t = s.t; m = s.m; stealing = s.stealing; applied = s.applied; chains = c.carry.new.chains; processors = s.processors; mutexes = xs }) =
+    elim c.if-done.branch [
+      | then-done w ↦ (w.put.new.xs, w.put.ensures ∙ rw (m, w.mutex_by_fields.ensures), w.s-is)
+      | else-done w ↦ (s.mutexes, same w.if-done.false, w.s-is)
+    ]
+    in
+    goes s a.p a.action a.operand _ d 0 none refl _
+    (parts s a.p a.action a.operand e c.carry.new.chains left.0 c.if-done.s c.put-2.new.xs c.up_wide-s.result c.carry.ensures left.1 left.2
+    (c.put-2.ensures ∙ ap (set c.if-done.s.processors a.p) c.by_fields.ensures) c.up_wide-s.ensures)
