@@ -172,11 +172,12 @@ module _ (r : Session) (j : List ℕ) (a : Move) where
     pub made_refused : (e : Refusal) → made_shown r.state (Err e) ≡ made → (move_answer_of r (Err e) ≡ moved r j a) × (j ≡ journal_after r j a)
     unfolding made_shown move_answer_of
     made_refused e is =
-        let answer : Session → MoveAnswer = λ (s : Session). record { refusal = number e; session = s; touch = touch_record nothing } in
-        (ap answer (sym (continued_same r)) ∙
-         ap by_made is ∙ made_answer,
-         sym (ap (λ (b : Bool). choose b (stored j r.state.applied a) j) (numbered e)) ∙
-         ap (λ (y : Made). choose (eqb y.refusal 0) (stored j r.state.applied a) j) is ∙ made_journal)
+        let answer : Session → MoveAnswer = λ (s : Session). record { refusal = number e; session = s; touch = touch_record nothing } in (
+          ap answer (sym (continued_same r)) ∙
+              ap by_made is ∙ made_answer,
+          sym (ap (λ (b : Bool). choose b (stored j r.state.applied a) j) (numbered e)) ∙
+              ap (λ (y : Made). choose (eqb y.refusal 0) (stored j r.state.applied a) j) is ∙ made_journal,
+        )
 
 -- ---- the journal's front
 

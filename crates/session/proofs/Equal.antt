@@ -31,6 +31,7 @@ mutexes_exact : Exact (pointwise mutex.eq-value.it)
 mutexes_exact = pointwise_decides mutex_exact
 
 pub state_exact : Exact state.eq-value.it
-state_exact x y =
-    (λ h. grind (arith, bytes_decides, threads_exact, processors_exact, mutexes_exact),
-     λ e. grind (arith, bytes_decides, threads_exact, processors_exact, mutexes_exact))
+state_exact x y = (
+  λ h. grind (arith, bytes_decides, threads_exact, processors_exact, mutexes_exact),
+  λ e. grind (arith, bytes_decides, threads_exact, processors_exact, mutexes_exact),
+)

@@ -203,8 +203,8 @@ module _ (r : Session) (j : List ℕ) (free : lent_refusal r (length j) ≡ 0) (
   low-none h calls n is = (
     none a (omega arith) (none-of c (moves a j) low_run low_made h),
     is ∙ low_counts calls ∙
-    front-counts c right j a b ab (omega (arith, journal_long r j free))
-    (λ e. not-made low_run h ((λ i. (run_of (first-is i) (between-front a j i)).refusal) ∙ e)) calls,
+        front-counts c right j a b ab (omega (arith, journal_long r j free))
+        (λ e. not-made low_run h ((λ i. (run_of (first-is i) (between-front a j i)).refusal) ∙ e)) calls,
   )
 
   -- those up to b

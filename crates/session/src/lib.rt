@@ -35,7 +35,7 @@ fn config_ok(p: u8, t: u8, m: u8, b: u8, stealing: u8) -> bool
 }
 
 // Begins a session: P processors, T threads, M mutexes, B threads created at first; stealing 0 for a single ready queue, 1 for one for each processor.
-#[tactic(auto, using(crate::proofs::Answers::started_taken, crate::proofs::Answers::started_refused))]
+#[tactic(auto, using(crate::proofs::Answers::started_refused))]
 pub fn start(p: u8, t: u8, m: u8, b: u8, stealing: u8) -> Result<Session, Refusal>
     ensures { answer_of zero_session result ≡ started (table p t m b stealing) }
 {
@@ -79,13 +79,27 @@ pub fn continued(session: Session, state: State) -> Session
     ensures { result ≡ continued session state }
 {
     let n = state.applied;
-    let kept = if n == session.state.applied { session.kept } else { n };
-    Session { state, kept, ..session }
+    let kept = if n == session.state.applied {
+        session.kept
+    } else {
+        n
+    };
+    Session {
+        state,
+        kept,
+        ..session
+    }
 }
 
 // Moves processor p: action a with operand o, once the journal is tested. Accepted, the move's three bytes are the journal's next, and no move is kept behind it;
 // refused, the journal stays.
-pub fn make_move(session: Session, journal: &mut [u8], p: u8, a: u8, o: u8) -> Result<Moved, Refusal>
+pub fn make_move(
+    session: Session,
+    journal: &mut [u8],
+    p: u8,
+    a: u8,
+    o: u8,
+) -> Result<Moved, Refusal>
     ensures answer { move_answer_of session result ≡ moved session journal.old (move_of p a o) }
     ensures written { journal.new ≡ journal_after session journal.old (move_of p a o) }
 {
@@ -134,7 +148,12 @@ pub fn last_touch(session: Session, journal: &[u8]) -> Touch
     match goto(session, journal, n - 1) {
         Ok(before) => {
             let i = 3 * (n - 1);
-            touch::touched(before.state, at(journal, i), at(journal, i + 1), at(journal, i + 2))
+            touch::touched(
+                before.state,
+                at(journal, i),
+                at(journal, i + 1),
+                at(journal, i + 2),
+            )
         }
         Err(_) => Touch::nothing(),
     }

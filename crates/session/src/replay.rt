@@ -32,7 +32,13 @@ pub(crate) struct Stages {
 
 // The first a of the journal's kept moves, those up to b, then the others, if all are accepted; each thread's calls among the first b, up to the first that is
 // refused, are counted.
-fn reached(session: Session, journal: &[u8], a: usize, b: usize, calls: &mut [u16]) -> Option<Stages>
+fn reached(
+    session: Session,
+    journal: &[u8],
+    a: usize,
+    b: usize,
+    calls: &mut [u16],
+) -> Option<Stages>
     requires { (lent_refusal session (length journal.now) ≡ 0) × (a ≤ b) × (b ≤ session.kept) }
     ensures states { Reaches session journal.now a b result }
     ensures calls { calls.new ≡ counted_to session b journal.now calls.old }
@@ -48,7 +54,12 @@ fn reached(session: Session, journal: &[u8], a: usize, b: usize, calls: &mut [u1
 
 // Replays the kept moves, those up to the nearer of k and the standing ones, to the farther, and the others: the state after the first k, if all are accepted and
 // the standing ones give the record. Each thread's calls up to the farther are counted.
-pub(crate) fn replayed(session: Session, journal: &[u8], k: usize, calls: &mut [u16]) -> Option<State>
+pub(crate) fn replayed(
+    session: Session,
+    journal: &[u8],
+    k: usize,
+    calls: &mut [u16],
+) -> Option<State>
     requires { (lent_refusal session (length journal.now) ≡ 0) × (k ≤ session.kept) }
     ensures state { Replays session journal.now k result }
     ensures calls { calls.new ≡ counted_to session (farther session k) journal.now calls.old }
@@ -57,8 +68,16 @@ pub(crate) fn replayed(session: Session, journal: &[u8], k: usize, calls: &mut [
     let n = given.applied as usize;
     if k <= n {
         let found = reached(session, journal, k, n, calls)?;
-        return if found.high == given { Some(found.low) } else { None };
+        return if found.high == given {
+            Some(found.low)
+        } else {
+            None
+        };
     }
     let found = reached(session, journal, n, k, calls)?;
-    if found.low == given { Some(found.high) } else { None }
+    if found.low == given {
+        Some(found.high)
+    } else {
+        None
+    }
 }
