@@ -1,0 +1,21 @@
+# The places of each point in crates/*/src/*.rt; to be run at the top of a checkout.
+S='crates/*/src/*.rt'
+n() { printf '%-6s %5d  %s\n' "$1" "$(eval "$3" | wc -l)" "$2"; }
+n 1a "refusals as numbers: fields and parameters" "grep -nE '\b(refusal|number|unread|mismatch|bad): (&mut )?u8\b' $S"
+n 1b "refusals as numbers: uses of the constants" "grep -nE 'Refusal::[A-Z][A-Z_]+\b' $S"
+n 1c "tests of such a number against 0" "grep -nE '\b(refusal|number|bad|first|shape|broken|unread|mismatch|refused|loaded) (!=|==) 0\b' $S"
+n 1d "constants for kinds" "grep -nE 'pub const [A-Z0-9_]+: u8' $S"
+n 1e "flags among a struct's fields" "grep -nE '^    pub [a-z_]+: bool,' $S"
+n 1f "widths of 0 and values of 16 that say 'not there'" "grep -nE 'width: 0|0 < [a-z]+\.width|^    16$|15 < (high|low)' $S"
+n 1g "enums of the shape of Option or Result" "grep -nE '^pub(\(crate\))? enum (Taken|Ahead)\b' $S"
+n 3a "while loops" "grep -nE '^ *while ' $S"
+n 3b "for loops over a range of indices" "grep -nE 'for [a-z_]+ in .*\.\.' $S"
+n 4a "equality and zero tests by fields" "grep -nE 'fn (same|same_word|same_token|same_state|zero_token|zero_processor|zero_mutex|zero_thread|placed_in)\b' $S"
+n 4b "two-byte fields by hand" "grep -nE '/ 256\b|% 256\b|256 \*' $S"
+n 5a "out and at" "grep -nE -A2 'fn [a-z_]+' $S | grep -E 'at: usize' | grep -E 'out|at: usize,$'"
+n 5b "a start table as five parameters" "grep -nE 'p: u8, t: u8, m: u8, b: u8' $S; grep -nE '^    b: u8,' $S"
+n 5c "a move as three parameters" "grep -nE 'p: u8, a: u8, o: u8|p: u8, action: u8, operand: u8|action: u8, operand: u8' $S"
+n 6a "arrays indexed at any number by an own function" "grep -nE '\b(processor_at|mutex_at|thread_at|first_at|with_processor|with_mutex|with_thread|get|byte)\(' $S"
+n 7a "switches on a step, a command or a request" "grep -nE '^ *match (position|action|word|command|request|i|b|self)\b' $S"
+n 8a "files of answers and invariants" "find crates/*/proofs -name Answers.antt -o -name Invariants.antt -o -name Proof.antt"
+n 8b "lines in proofs/" "cat \$(find crates/*/proofs -name '*.antt')"
