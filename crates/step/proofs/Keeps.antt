@@ -1,6 +1,6 @@
 -- Where nothing says that a line or a call may change its mutex, its effect leaves the mutex as it was.
 -- Assumes nothing.
-use Prim.Native.Nat.{ℕ, zero, suc}
+use Prim.Native.Nat.{ℕ, zero, suc, ◌<◌}
 use mathlib.Core.Bool.{Bool, true, false, not, ◌&&◌, true≢false}
 use mathlib.Core.List.{List, [], ◌∷◌}
 use Rattle.std.proofs.Common.{Option, Some, None}
@@ -8,10 +8,10 @@ use mathlib.Core.Path.{◌≡◌, refl}
 use lib.Dec.{eqb}
 use lib.ListN.{get_or}
 use native.Mathlib.Omega.{arith}
-use Rattle.reference.specs.Lists.{choose}
+use borrow.Author.Tests.{le-leb, lt-leb}
+use Rattle.reference.specs.Lists.{choose, in_range}
 use Rattle.state.specs.declared.Mutex.{Mutex}
 use Rattle.state.specs.declared.queues.Front.{Front}
-use Rattle.step.proofs.Match.{beyond}
 use Rattle.step.specs.declared.View.{View}
 use Rattle.step.specs.declared.Effect.{Effect}
 use Rattle.step.specs.Model.Moves.{on_taken, effects, stay, writers, line_effect, act_effect, act_outcome, at_CI2, at_CI3, at_L3, at_L4, at_L6, at_L7, at_L10, at_GT1, at_H3, at_H6, at_Y1, at_Y2, at_Y3, at_C2, lock_call, trylock_call, unlock_call, yield_call, exit_call, create_call}
@@ -77,6 +77,10 @@ lines_keep =
 line_keeps : (v : View) → get_or writers v.proc.position false ≡ false → (line_effect v).mutex ≡ v.mutex
 unfolding line_effect
 line_keeps v e = keep_at writers effects lines_keep v.proc.position e v
+
+-- no call has a number above 6
+beyond : (n x : ℕ) → n < x → in_range 1 n x ≡ false
+beyond n x h = rw (le-leb 1 x (omega arith), lt-leb x n h)
 
 -- past a call
 went : (b w : Bool) → b ≡ false → not b && w ≡ false → w ≡ false

@@ -1,5 +1,4 @@
 -- What the proofs of the functions share, and the theory that ties the code to the reference machine.
-pub mod Match
 pub mod Keeps
 pub mod Ring
 pub mod InPlace

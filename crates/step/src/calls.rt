@@ -3,15 +3,13 @@ ghost use Rattle.std.specs.Prelude.{◌≡◌, eqb};
 ghost use Rattle.reference.specs.Lists.{choose};
 ghost use Rattle.step.specs.Model.Moves.{noted};
 
-use crate::registers::up_wide;
-
 // One more call of thread k; a thread that has no place in the list is not counted.
 pub(crate) fn note(calls: &mut [u16], k: u8)
     ensures { calls.new ≡ noted calls.old k }
 {
     let i = k as usize;
     if i < calls.len() {
-        calls[i] = up_wide(calls[i]);
+        calls[i] = calls[i].saturating_add(1);
     }
 }
 

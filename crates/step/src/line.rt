@@ -30,14 +30,13 @@ fn writes(broken: bool, effect: Effect) -> Outcome
 
 // The line at which the processor stands; at App, and at no line, nothing happens. With t threads a rule is broken where the count would leave 0 to t + 1,
 // where the own sequence number would pass 4,000, and where L9 finds an empty queue.
+#[tactic(auto, unfolding(crate::specs::Model::Moves::line_outcome, crate::specs::Model::Moves::line_effect))]
 pub(crate) fn line(t: u8, v: View) -> Outcome
     ensures { result ≡ line_outcome t v }
 {
     let r = v.proc;
     let x = v.mutex;
-    let queue = v.queue;
-    let position = r.position;
-    match position {
+    match r.position {
         Position::CI2 => keeps(ready::ci2(v)),
         Position::CI3 => keeps(ready::ci3(v)),
         Position::L1 => writes(t < x.count, lock::l1(v)),
@@ -46,7 +45,7 @@ pub(crate) fn line(t: u8, v: View) -> Outcome
         Position::L6 => keeps(lock::l6(v)),
         Position::L7 => keeps(lock::l7(v)),
         Position::L8 => writes(false, lock::l8(v)),
-        Position::L9 => writes(queue.is_none(), lock::l9(v)),
+        Position::L9 => writes(v.queue.is_none(), lock::l9(v)),
         Position::L10 => keeps(lock::l10(v)),
         Position::TL1 => writes(false, trylock::tl1(v)),
         Position::GT1 => keeps(trylock::gt1(v)),
@@ -67,6 +66,7 @@ pub(crate) fn line(t: u8, v: View) -> Outcome
 }
 
 // Action 0 is go, 1 to 6 are the calls.
+#[tactic(auto, unfolding(crate::specs::Model::Moves::act_outcome, crate::specs::Model::Moves::act_effect, crate::specs::Model::Moves::line_outcome))]
 pub(crate) fn act(t: u8, action: u8, operand: u8, v: View) -> Outcome
     ensures { result ≡ act_outcome t action operand v }
 {

@@ -6,7 +6,7 @@ ghost use Rattle.step.specs.Model.Moves.{target_of, probed, on_ring, index_of, v
 use crate::calls::note_move;
 use crate::cause::{owns_none, sizes};
 use crate::deciding::decide;
-use crate::registers::{by_fields, mutex_by_fields, up_wide};
+use crate::registers::{by_fields, mutex_by_fields};
 use crate::{Run, Status, Transfer, View};
 use state::access::{at, put};
 use state::queues::ready_queues;
@@ -119,7 +119,7 @@ pub fn make(s: &mut State, p: u8, action: u8, operand: u8) -> Result<(), Refusal
         put(&mut s.mutexes, m as usize, mutex_by_fields(e.mutex));
     }
     put(&mut s.processors, p as usize, by_fields(e.proc));
-    s.applied = up_wide(s.applied);
+    s.applied = s.applied.saturating_add(1);
     Ok(())
 }
 

@@ -7,15 +7,14 @@ use crate::{Effect, Status, Transfer, View};
 use state::Position;
 
 // CI2: an idle processor takes a ready thread and probes from 0 again; from an empty queue the probe moves on to the next.
+#[tactic(auto, unfolding(crate::specs::Model::Moves::at_CI2))]
 pub(crate) fn ci2(v: View) -> Effect
     ensures { result ≡ at_CI2 v }
 {
     let mut r = v.proc;
     let x = v.mutex;
-    let ready = v.ready;
-    let Some(front) = ready else {
-        let n = next_probe(v.queues, r.probe);
-        r.probe = n;
+    let Some(front) = v.ready else {
+        r.probe = next_probe(v.queues, r.probe);
         return stays(away(r, Position::CI2), x);
     };
     r.transit = front.thread;
@@ -28,6 +27,7 @@ pub(crate) fn ci2(v: View) -> Effect
 }
 
 // CI3 runs that thread.
+#[tactic(auto, unfolding(crate::specs::Model::Moves::at_CI3))]
 pub(crate) fn ci3(v: View) -> Effect
     ensures { result ≡ at_CI3 v }
 {
@@ -35,19 +35,20 @@ pub(crate) fn ci3(v: View) -> Effect
 }
 
 // Y1: yield has no effect where no thread is ready.
+#[tactic(auto, unfolding(crate::specs::Model::Moves::at_Y1))]
 pub(crate) fn y1(v: View) -> Effect
     ensures { result ≡ at_Y1 v }
 {
     let r = v.proc;
     let x = v.mutex;
-    let ready = v.ready;
-    match ready {
+    match v.ready {
         None => stays(away(r, Position::APP), x),
         Some(_) => stays(away(r, Position::Y2), x),
     }
 }
 
 // Y2: the current thread stops running,
+#[tactic(auto, unfolding(crate::specs::Model::Moves::at_Y2))]
 pub(crate) fn y2(v: View) -> Effect
     ensures { result ≡ at_Y2 v }
 {
@@ -64,6 +65,7 @@ pub(crate) fn y2(v: View) -> Effect
 }
 
 // Y3: and is ready, behind the others.
+#[tactic(auto, unfolding(crate::specs::Model::Moves::at_Y3))]
 pub(crate) fn y3(v: View) -> Effect
     ensures { result ≡ at_Y3 v }
 {
@@ -71,6 +73,7 @@ pub(crate) fn y3(v: View) -> Effect
 }
 
 // C2: the created thread is ready.
+#[tactic(auto, unfolding(crate::specs::Model::Moves::at_C2))]
 pub(crate) fn c2(v: View) -> Effect
     ensures { result ≡ at_C2 v }
 {

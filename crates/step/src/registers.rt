@@ -1,56 +1,30 @@
 // Changes of numbers, registers and places that several lines make.
-ghost use Rattle.std.specs.Prelude.{◌≡◌, ◌-◌};
+ghost use Rattle.std.specs.Prelude.{◌≡◌};
 ghost use Rattle.state.specs.Record.{zero_token};
-ghost use Rattle.step.specs.Model.Moves.{up_to, next_probe, same_tokens, away, on_mutex, observing, tokened, effect, load, join_ready, serve};
+ghost use Rattle.step.specs.Model.Moves.{next_probe, away, on_mutex, observing, tokened, effect, load, join_ready, serve};
 
 use crate::{Effect, Status, Transfer, View};
+use state::access::Zero;
 use state::queues::Front;
 use state::{Mutex, Position, Processor, Token};
-
-// One more, or the same at the largest number.
-pub(crate) fn up(n: u8) -> u8
-    ensures { result ≡ up_to 255 n }
-{
-    if n < 255 { n + 1 } else { n }
-}
-
-// The same of two bytes.
-pub(crate) fn up_wide(n: u16) -> u16
-    ensures { result ≡ up_to 65535 n }
-{
-    if n < 65535 { n + 1 } else { n }
-}
-
-// One less, or 0.
-pub(crate) fn down(n: u8) -> u8
-    ensures { result ≡ n - 1 }
-{
-    if 0 < n { n - 1 } else { 0 }
-}
 
 // The next look number on a ring of n: back to 0 after n - 1.
 pub(crate) fn next_probe(n: u8, probe: u8) -> u8
     ensures { result ≡ next_probe n probe }
 {
-    if probe < down(n) { probe + 1 } else { 0 }
-}
-
-pub fn same(a: Token, b: Token) -> bool
-    ensures { result ≡ same_tokens a b }
-{
-    (a.processor == b.processor) & (a.sequence == b.sequence)
+    if probe < n.saturating_sub(1) {
+        probe + 1
+    } else {
+        0
+    }
 }
 
 pub(crate) fn cleared(x: Mutex) -> Mutex
     ensures { result ≡ tokened zero_token x }
 {
     Mutex {
-        count: x.count,
-        owner: x.owner,
-        token: Token {
-            processor: 0,
-            sequence: 0,
-        },
+        token: Token::zero(),
+        ..x
     }
 }
 
@@ -60,16 +34,9 @@ pub(crate) fn away(r: Processor, position: u8) -> Processor
 {
     Processor {
         position,
-        current: r.current,
-        transit: r.transit,
         mutex: 0,
-        observed: Token {
-            processor: 0,
-            sequence: 0,
-        },
-        sequence: r.sequence,
-        answer: r.answer,
-        probe: r.probe,
+        observed: Token::zero(),
+        ..r
     }
 }
 
@@ -77,17 +44,10 @@ pub(crate) fn away(r: Processor, position: u8) -> Processor
 pub(crate) fn on_mutex(r: Processor, position: u8) -> Processor
     ensures { result ≡ on_mutex position r }
 {
-    observing(
-        r,
-        position,
-        Token {
-            processor: 0,
-            sequence: 0,
-        },
-    )
+    observing(r, position, Token::zero())
 }
 
-// To stand at a line that has a mutex and an observed token.
+// To stand at a line that has a mutex and an observed token. Kept field by field, as `by_fields` needs it.
 pub(crate) fn observing(r: Processor, position: u8, token: Token) -> Processor
     ensures { result ≡ observing position token r }
 {
@@ -170,7 +130,7 @@ pub(crate) fn join_ready(v: View, position: u8) -> Effect
     }
 }
 
-// The first thread of the mutex's queue is in transit and owns the mutex.
+// The front thread of the mutex's queue is in transit and owns the mutex.
 pub(crate) fn serve(v: View, front: Front, position: u8) -> Effect
     ensures { result ≡ serve front.thread front.rest position v }
 {

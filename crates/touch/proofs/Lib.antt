@@ -1,3 +1,2 @@
 -- The words that the code says are those of the reference machine.
-pub mod Lines
 pub mod Agrees

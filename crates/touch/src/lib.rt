@@ -109,6 +109,7 @@ pub(crate) struct Sight {
 }
 
 // What processor p sees where it stands.
+#[tactic(auto, unfolding(state::specs::Model::Access::taken))]
 fn seen(s: State, p: u8) -> Sight
     ensures { result ≡ sight_of (view_of s p (processor_of s p).mutex) }
 {

@@ -68,15 +68,13 @@ fn takes_back(v: Sight) -> Touch
 }
 
 // The line at which the processor stands.
+#[tactic(auto, unfolding(crate::specs::Model::Made::line_seen, reference::specs::State::line_of, reference::specs::Touch::line_touch))]
 fn line(v: Sight) -> Touch
     ensures { result ≡ touch_record (line_seen v) }
 {
-    let r = v.proc;
-    let x = v.mutex;
-    let m = r.mutex;
+    let m = v.proc.mutex;
     let q = ready_number(v.index);
-    let position = r.position;
-    match position {
+    match v.proc.position {
         Position::CI2 => touching(v.ready, Word::Ready(q)),
         Position::CI3 => Touch::nothing(),
         Position::L1 => changes(Word::Count(m)),
@@ -87,7 +85,7 @@ fn line(v: Sight) -> Touch
         Position::L8 => claims(v),
         Position::L9 => touching(v.waiting, Word::Queue(m)),
         Position::L10 => Touch::nothing(),
-        Position::TL1 => touching(x.count == 0, Word::Count(m)),
+        Position::TL1 => touching(v.mutex.count == 0, Word::Count(m)),
         Position::GT1 => looks_at(Word::Token(m)),
         Position::GT3 => claims(v),
         Position::TL3 => changes(Word::Count(m)),
@@ -106,11 +104,12 @@ fn line(v: Sight) -> Touch
 }
 
 // Of the calls a create touches its thread's birth; the others touch nothing.
+#[tactic(auto, unfolding(crate::specs::Model::Made::line_seen, crate::specs::Model::Made::act_seen, reference::specs::Step::action_of, reference::specs::Touch::act_touch))]
 pub(crate) fn act(v: Sight, action: u8, operand: u8) -> Touch
     ensures { result ≡ touch_record (act_seen action operand v) }
 {
     match action {
-        1..=5 => Touch::nothing(),
+        1 | 2 | 3 | 4 | 5 => Touch::nothing(),
         6 => changes(Word::Birth(operand)),
         _ => line(v),
     }

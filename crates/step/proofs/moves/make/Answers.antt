@@ -1,7 +1,9 @@
 -- `step::moves::make` meets its contract: what the code's decision says of a move is what the model's says.
 -- Assumes nothing.
-use Rattle.std.proofs.Common.{ℕ, Bool, List, ◌≡◌, refl, sym, ap, ◌∙◌, set, Result, Ok, Err}
+use Rattle.std.proofs.Common.{ℕ, ◌+◌, ◌-◌, ◌^◌, ◌≤◌, min, Bool, true, false, List, ◌≡◌, refl, sym, ap, ◌∙◌, set, Result, Ok, Err, ltb}
 use native.Mathlib.Omega.{arith}
+use borrow.Author.Tests.{ltb-true, ltb-false}
+use Rattle.reference.specs.Lists.{choose}
 use Rattle.std.proofs.lemmas.Result.{err_from_is_err_and}
 use Rattle.state.specs.declared.State.{State}
 use Rattle.state.specs.declared.Processor.{Processor}
@@ -13,7 +15,7 @@ use Rattle.state.proofs.Refused.{not_none}
 use Rattle.step.specs.declared.View.{View}
 use Rattle.step.specs.declared.Sizes.{Sizes}
 use Rattle.step.specs.declared.Decision as code
-use Rattle.step.specs.Model.Moves.{target_of, view_of, move_view, sizes_of, owns_none, decided, decision}
+use Rattle.step.specs.Model.Moves.{target_of, view_of, move_view, sizes_of, owns_none, up_to, decided, decision}
 use Rattle.step.proofs.InPlace.{stands, owner_stays, goes_free, free, at, parts, stays, unwritten, goes}
 use Rattle.step.proofs.moves.make.Goals as goal
 use Rattle.step.proofs.moves.make.Goals.{then-done, else-done, else-action-eq5-via-then-action-eq5+else-not-owns_none, else-action-eq5-via-else-action-eq5}
@@ -33,6 +35,14 @@ module _ (s : State) (p a o : ℕ) where
 
     asks : (b : Bool) → b ≡ owns_none s.mutexes s.m v.proc.current → b ≡ free s p a o
     asks b e = e ∙ ap (λ (q : View). owns_none s.mutexes s.m q.proc.current) sees
+
+-- one more, or the same at the largest number
+capped : (n : ℕ) → n ≤ 65535 → min (n + 1) (2 ^ 16 - 1) ≡ up_to 65535 n
+capped n h = by (ltb n 65535) refl
+  where
+    by : (b : Bool) → ltb n 65535 ≡ b → min (n + 1) 65535 ≡ choose b (n + 1) n
+    by true e = omega (arith, ltb-true n 65535 e)
+    by false e = omega (arith, ltb-false n 65535 e)
 
 pub returns-in_err-done : goal.returns-in_err-done
 unfolding outcome decided
@@ -80,5 +90,5 @@ returns c =
     ]
     in
     goes s a.p a.action a.operand _ d 0 none refl _
-    (parts s a.p a.action a.operand e c.carry.new.chains left.0 c.if-done.s c.put-2.new.xs c.up_wide-s.result c.carry.ensures left.1 left.2
-    (c.put-2.ensures ∙ ap (set c.if-done.s.processors a.p) c.by_fields.ensures) c.up_wide-s.ensures)
+    (parts s a.p a.action a.operand e c.carry.new.chains left.0 c.if-done.s c.put-2.new.xs c.saturating_add-s.result c.carry.ensures left.1 left.2
+    (c.put-2.ensures ∙ ap (set c.if-done.s.processors a.p) c.by_fields.ensures) (c.saturating_add-s.ensures ∙ capped c.if-done.s.applied (omega (arith, c))))

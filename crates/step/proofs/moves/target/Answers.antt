@@ -1,9 +1,0 @@
--- `step::moves::target` meets its contract.
--- Assumes nothing.
-use Rattle.step.proofs.moves.target.Goals as goal
-
-pub returns-then-in_range : goal.returns-then-in_range
-returns-then-in_range c = rw (← c.in_range.ensures, c.if-in_range.true)
-
-pub returns-else-in_range : goal.returns-else-in_range
-returns-else-in_range c = rw (← c.in_range.ensures, c.if-in_range.false)

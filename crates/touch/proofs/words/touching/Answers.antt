@@ -1,9 +1,0 @@
--- `touch::words::touching` meets its contract.
--- Assumes nothing.
-use Rattle.touch.proofs.words.touching.Goals as goal
-
-pub returns-then-test : goal.returns-then-test
-returns-then-test c = rw c.if-test.true
-
-pub returns-else-test : goal.returns-else-test
-returns-else-test c = rw c.if-test.false
