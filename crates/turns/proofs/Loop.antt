@@ -22,7 +22,7 @@ use Rattle.picture.specs.Model.Parts.{over, record_bytes}
 use Rattle.picture.proofs.Written.{over-written}
 use Rattle.reference.specs.Lists.{choose, with_front, tabulate}
 use Rattle.reference.specs.Start.{Config, config_cause, start}
-use Rattle.reference.specs.Step.{Move, move_of}
+use Rattle.reference.specs.Step.{Move}
 use Rattle.reference.specs.Cause.{cause, accepted}
 use Rattle.reference.specs.Picture.{picture}
 use Rattle.reference.specs.Script.{turned, turn_cause, turn_after, class_moves, class_answers, class_pictures}
@@ -41,9 +41,8 @@ use Rattle.session.proofs.Shown as reached
 use Rattle.session.proofs.Counted.{calls_of}
 use Rattle.session.proofs.Standing.{length-bytes, bytes_snoc, sets-written}
 use Rattle.session.proofs.Holding.{Agree, agrees, whole_is}
-use Rattle.turns.specs.declared.made.Made.{Made}
 use Rattle.turns.specs.Contract.{class_refusal}
-use Rattle.turns.specs.Model.Turn.{turn_result, Given}
+use Rattle.turns.specs.Model.Turn.{Made, turn_result, Takes, Given}
 use Rattle.reference.proofs.Fronts.{with_front-same, with_front-length, with_front_more, with_front-set, with_front-part}
 use Rattle.turns.proofs.Turned.{Turn, turn-taken}
 
@@ -59,13 +58,13 @@ module _ (c : Config) (right : config_cause c ≡ 0) (x : List ℕ) where
       length-append (picture (state_of c on)) (class_pictures c x on ps) ∙ omega (arith, pictures-length ps on ok', suc-mul (length ps) (picture_size c))
 
 -- what the code's indices and sums need after i turns: the buffers' lengths, and room for the next answer and picture
-pub record Rooms (j ps a b : List ℕ) (size i at : ℕ) (j' a' b' : List ℕ) : Type 0 where
+pub record Rooms (j ps a b : List ℕ) (size i : ℕ) (j' a' b' : List ℕ) : Type 0 where
   pub few : i ≤ length ps
   pub journal : length j' ≡ length j
   pub answers : length a' ≡ length a
   pub pictures : length b' ≡ length b
   pub room : length ps ≤ length a
-  pub next : i < length ps → at + size ≤ length b
+  pub next : i < length ps → i * size + size ≤ length b
 
 -- neither test is passed
 neither : (a b : Bool) → a || b ≡ false → (a ≡ false) × (b ≡ false)
@@ -111,21 +110,19 @@ module _ (r : Session) (size : Sized r.state) (j x ps a b : List ℕ) (none : cl
   pub made_ok : (i : ℕ) → accepted (start c) (made i) ≡ true
   made_ok i = accepted-class c x (take i ps) ms agree.legal
 
-  pub record Going (i at : ℕ) (s : Record) (calls j' a' b' : List ℕ) : Type 0 where
+  pub record Going (i : ℕ) (s : Record) (calls j' a' b' : List ℕ) : Type 0 where
     pub few : i ≤ length ps
-    pub place : at ≡ i * picture_size c
     pub state : s ≡ encode (state_of c (made i))
     pub calls_are : calls ≡ calls_of c (made i)
     pub journal : j' ≡ with_front j (bytes (made i))
     pub numbers : a' ≡ with_front a (class_answers c x ms (take i ps))
     pub shows : b' ≡ with_front b (class_pictures c x ms (take i ps))
 
-  pub going_start : (calls : List ℕ) → calls ≡ tabulate (progress_in r j) 0 33 → Going 0 0 r.state calls j a b
+  pub going_start : (calls : List ℕ) → calls ≡ tabulate (progress_in r j) 0 33 → Going 0 r.state calls j a b
   unfolding class_moves class_answers class_pictures
   going_start calls e =
       record {
         few = omega arith;
-        place = omega arith;
         state = sym (encode-decode r.state size (state-right r fine.record_ok)) ∙ ap encode agree.state;
         calls_are = e;
         journal = with_front-same j (bytes ms) (ap (λ (n : ℕ). take n j) (length-bytes ms) ∙ whole_is r j agree);
@@ -144,7 +141,10 @@ module _ (r : Session) (size : Sized r.state) (j x ps a b : List ℕ) (none : cl
   shown-length : (i : ℕ) → i ≤ length ps → length (class_pictures c x ms (take i ps)) ≡ i * picture_size c
   shown-length i h = pictures-length c right x (take i ps) ms agree.legal ∙ ap (λ (n : ℕ). n * picture_size c) (length-take-le i ps h)
 
-  module _ (i at : ℕ) (s : Record) (calls j' a' b' : List ℕ) (g : Going i at s calls j' a' b') where
+  module _ (i : ℕ) (s : Record) (calls j' a' b' : List ℕ) (g : Going i s calls j' a' b') where
+    abbrev at : ℕ
+    at = i * picture_size c
+
     journal-size : length j' ≡ length j
     journal-size = ap length g.journal ∙ with_front-length j (bytes (made i)) (omega (arith, length-bytes (made i), few_moves i, agree.size))
 
@@ -171,9 +171,9 @@ module _ (r : Session) (size : Sized r.state) (j x ps a b : List ℕ) (none : cl
     next_fits : i < length ps → at + picture_size c ≤ length b
     next_fits h =
         let more : suc i * picture_size c ≤ length ps * picture_size c = mul-le-mul_right (picture_size c) h in
-        omega (arith, suc-mul i (picture_size c), g.place, fine.room.1)
+        omega (arith, suc-mul i (picture_size c), fine.room.1)
 
-    pub rooms : Rooms j ps a b (picture_size c) i at j' a' b'
+    pub rooms : Rooms j ps a b (picture_size c) i j' a' b'
     rooms = record { few = g.few; journal = journal-size; answers = numbers-size; pictures = shown-size; room = fine.room.0; next = next_fits }
 
     module _ (h : i < length ps) where
@@ -186,9 +186,12 @@ module _ (r : Session) (size : Sized r.state) (j x ps a b : List ℕ) (none : cl
       made_more : made (i + 1) ≡ turn_after c x (made i) p
       made_more = ap (class_moves c x ms) one_more ∙ moves_more c x (take i ps) ms p
 
-      module _ (t : Made) (e : t ≡ turn_result s calls x p) where
+      abbrev t : Made
+      t = turn_result s calls x p
+
+      module _ (n : ℕ) (s' : Record) (calls' j'' : List ℕ) (took : Takes s calls j' x p n s' calls' j'') where
         turn : Turn c right (made i) (made_ok i) x p t
-        turn = turn-taken c right (made i) (made_ok i) x p t (e ∙ (λ d. turn_result (g.state d) (g.calls_are d) x p))
+        turn = turn-taken c right (made i) (made_ok i) x p t (λ d. turn_result (g.state d) (g.calls_are d) x p)
 
         abbrev m : Move
         m = turned c x (made i) p
@@ -226,34 +229,32 @@ module _ (r : Session) (size : Sized r.state) (j x ps a b : List ℕ) (none : cl
         part_length : length (part b') ≡ length b' - at
         part_length = length-take-le (length b' - at) (drop at b') (omega (arith, length-drop at b'))
 
-        shown-next : (w : List ℕ) → w ≡ over (part b') (record_bytes t.state) → w ≡ with_front (part b') (picture (state_of c on))
+        shown-next : (w : List ℕ) → w ≡ over (part b') (record_bytes s') → w ≡ with_front (part b') (picture (state_of c on))
         shown-next w e =
-            e ∙ ap (λ (q : Record). over (part b') (record_bytes q)) turn.state ∙
+            e ∙ ap (λ (q : Record). over (part b') (record_bytes q)) (took.state ∙ turn.state) ∙
             over-written (encode (state_of c on)) (part b') (encode_sized (state_of c on)) (reached.state-right c on right on_ok) ∙
             pictured c on right on_ok (part b') (omega (arith, part_length, shown-size, next_fits h))
 
-        shown_more : (w : List ℕ) → w ≡ over (part b') (record_bytes t.state) →
+        shown_more : (w : List ℕ) → w ≡ over (part b') (record_bytes s') →
             take at b' ++ (w ++ drop (length b' - at) (drop at b')) ≡ with_front b (class_pictures c x ms (take (i + 1) ps))
         shown_more w e =
             (λ d. take at (g.shows d) ++ (w ++ drop (length (g.shows d) - at) (drop at (g.shows d)))) ∙
-            with_front-part b before (picture (state_of c on)) at (shown-length i g.few ∙ sym g.place) (omega (arith, picture-long c on right on_ok, next_fits h)) w
+            with_front-part b before (picture (state_of c on)) at (shown-length i g.few) (omega (arith, picture-long c on right on_ok, next_fits h)) w
             (shown-next w e ∙ ap (λ (l : List ℕ). with_front (part l) (picture (state_of c on))) g.shows) ∙
             ap (with_front b) (sym (ap (class_pictures c x ms) one_more ∙ pictures_more c x (take i ps) ms p))
 
-        pub going_more : (j'' a'' w : List ℕ) → j'' ≡ choose (eqb t.refusal 0) (stored j' s.applied (move_of p t.action t.operand)) j' →
-            a'' ≡ set a' i t.refusal → w ≡ over (take (length b' - at) (drop at b')) (record_bytes t.state) →
-            Going (i + 1) (at + picture_size c) t.state t.calls j'' a'' (take at b' ++ (w ++ drop (length b' - at) (drop at b')))
-        going_more j'' a'' w je ae we =
+        pub going_more : (a'' w : List ℕ) → a'' ≡ set a' i n → w ≡ over (take (length b' - at) (drop at b')) (record_bytes s') →
+            Going (i + 1) s' calls' j'' a'' (take at b' ++ (w ++ drop (length b' - at) (drop at b')))
+        going_more a'' w ae we =
             record {
               few = omega arith;
-              place = omega (arith, suc-mul i (picture_size c), add-one i, g.place);
-              state = turn.state ∙ ap (λ (l : List Move). encode (state_of c l)) (sym made_more);
-              calls_are = turn.calls ∙ ap (calls_of c) (sym made_more);
+              state = took.state ∙ turn.state ∙ ap (λ (l : List Move). encode (state_of c l)) (sym made_more);
+              calls_are = took.counts ∙ turn.calls ∙ ap (calls_of c) (sym made_more);
               journal =
-                  je ∙ (λ d. choose (eqb (turn.refusal d) 0) (stored j' (applied d) (turn.move d)) j') ∙ joined (eqb (turn_cause c x (made i) p) 0) refl ∙
+                  took.journal ∙ (λ d. choose (eqb (turn.refusal d) 0) (stored j' (applied d) (turn.move d)) j') ∙ joined (eqb (turn_cause c x (made i) p) 0) refl ∙
                   ap (λ (l : List Move). with_front j (bytes l)) (sym made_more);
               numbers =
-                  ae ∙ (λ d. set (g.numbers d) i (turn.refusal d)) ∙
+                  ae ∙ (λ d. set (g.numbers d) i ((took.number ∙ turn.refusal) d)) ∙
                   with_front-set a (class_answers c x ms (take i ps)) (turn_cause c x (made i) p) i (numbers-length i g.few) (omega (arith, fine.room.0)) ∙
                   ap (with_front a) (sym (ap (class_answers c x ms) one_more ∙ answers_more c x (take i ps) ms p));
               shows = shown_more w we;

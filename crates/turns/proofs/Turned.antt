@@ -6,6 +6,10 @@ use mathlib.Core.List.{List, [], ◌∷◌, ◌++◌}
 use mathlib.Core.Path.{◌≡◌, refl, sym, ap, ◌∙◌}
 use native.Mathlib.Omega.{arith}
 use lib.Dec.{eqb, ltb}
+use Rattle.std.proofs.Common.{Ok, Err}
+use Rattle.state.specs.declared.refusal.Refusal.{Refusal}
+use Rattle.state.specs.Refusal.{number}
+use Rattle.state.proofs.Refused.{numbered}
 use borrow.Author.Tests.{eqb-true}
 use Rattle.state.specs.declared.Processor.{Processor}
 use Rattle.state.specs.declared.State.{State as Record}
@@ -18,8 +22,7 @@ use Rattle.shown.proofs.Kept.{state-kept, fields_say, processor-says, facts}
 use Rattle.shown.proofs.Regular.{regular_fits, allowed_regular}
 use Rattle.shown.proofs.Encode.{encode-decode, decode-allowed}
 use Rattle.shown.proofs.Unique.{encode_sized}
-use Rattle.step.specs.declared.Moved.{Moved}
-use Rattle.step.specs.Model.Moves.{moved_of, noted}
+use Rattle.step.specs.Model.Moves.{Moved, moved_shown, moved_of, noted}
 use Rattle.reference.specs.Lists.{choose, in_range, tabulate}
 use Rattle.reference.specs.State.{State, processor_at}
 use Rattle.reference.specs.Start.{Config, config_cause, start}
@@ -31,8 +34,8 @@ use Rattle.reference.proofs.Moves.{run_snoc}
 use Rattle.session.proofs.Shown.{state-right, state-back}
 use Rattle.session.proofs.Reached.{moved_in, moved-reached}
 use Rattle.session.proofs.Counted.{calls_of, noted_more}
-use Rattle.turns.specs.declared.made.Made.{Made}
-use Rattle.turns.specs.Model.Turn.{turn_of, made_by, turn_result}
+use Rattle.session.specs.Model.Replay.{stored}
+use Rattle.turns.specs.Model.Turn.{Made, turn_of, made_by, turn_result, Takes}
 
 -- ---- the move of a turn, on a record that keeps the rules
 
@@ -75,24 +78,43 @@ its_own s made x p = by (at_app s p) (call-own (processor_at s p).current (made 
     by true e = e
     by false e = refl
 
--- ---- what the code puts together
+-- ---- what the code makes of it
 
-pub taken_made : (s : Record) (calls x : List ℕ) (p : ℕ) (m : Move) → m ≡ turn_of (processor_of s p) calls x p → (made : Moved) → made ≡ moved_of s p m.action m.operand →
-    (counted : List ℕ) → counted ≡ choose (eqb made.refusal 0) (choose (eqb m.action 0) calls (noted calls (processor_of s p).current)) calls →
-    record { refusal = made.refusal; action = m.action; operand = m.operand; state = made.state; calls = counted } ≡ turn_result s calls x p
-unfolding turn_result
-taken_made s calls x p m e made is counted h =
-    (λ i. record { refusal = made.refusal; action = m.action; operand = m.operand; state = made.state; calls = h i }) ∙
-    ap
-    (λ (q : Moved).
-    record {
-      refusal = q.refusal;
-      action = m.action;
-      operand = m.operand;
-      state = q.state;
-      calls = choose (eqb q.refusal 0) (choose (eqb m.action 0) calls (noted calls (processor_of s p).current)) calls;
-    })
-    is ∙ ap (made_by s calls p) e
+module _ (s : Record) (calls j x : List ℕ) (p : ℕ) (m : Move) (e : m ≡ turn_of (processor_of s p) calls x p) where
+  result_is : (made : Moved) → made ≡ moved_of s p m.action m.operand →
+      turn_result s calls x p ≡
+      record {
+        refusal = made.refusal;
+        action = m.action;
+        operand = m.operand;
+        state = made.state;
+        calls = choose (eqb made.refusal 0) (choose (eqb m.action 0) calls (noted calls (processor_of s p).current)) calls;
+      }
+  unfolding turn_result
+  result_is made is =
+      ap (made_by s calls p) (sym e) ∙
+      ap
+      (λ (q : Moved).
+      record {
+        refusal = q.refusal;
+        action = m.action;
+        operand = m.operand;
+        state = q.state;
+        calls = choose (eqb q.refusal 0) (choose (eqb m.action 0) calls (noted calls (processor_of s p).current)) calls;
+      }) (sym is)
+
+  pub turn_refused : (refusal : Refusal) → moved_shown s (Err refusal) ≡ moved_of s p m.action m.operand → Takes s calls j x p (number refusal) s calls j
+  unfolding moved_shown
+  turn_refused refusal is =
+      let t = result_is (record { refusal = number refusal; state = s }) is in
+      record { number = rw t; state = rw t; counts = rw (t, numbered refusal); journal = rw (t, numbered refusal) }
+
+  pub turn_accepted : (after : Record) → moved_shown s (Ok after) ≡ moved_of s p m.action m.operand →
+      Takes s calls j x p 0 after (choose (eqb m.action 0) calls (noted calls (processor_of s p).current)) (stored j s.applied (move_of p m.action m.operand))
+  unfolding moved_shown
+  turn_accepted after is =
+      let t = result_is (record { refusal = 0; state = after }) is in
+      record { number = rw t; state = rw t; counts = rw t; journal = rw t }
 
 -- ---- a turn on the record of a state that accepted moves give, with their calls counted
 

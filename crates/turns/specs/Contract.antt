@@ -2,12 +2,10 @@
 -- `r` is the record, `j` the journal lent, `x` the scripts.
 -- Assumes nothing.
 use Rattle.std.specs.Prelude.{ℕ, not, List, eqb, length}
-use Rattle.session.specs.declared.Answer.{Answer}
-use Rattle.session.specs.declared.MoveAnswer.{MoveAnswer}
 use Rattle.state.specs.declared.Session.{Session}
 use Rattle.state.specs.Record.{zero_session}
 use Rattle.state.specs.Association.{session_record}
-use Rattle.session.specs.Contract.{shown, config_of, answered, or_later, lent_refusal, standing, matches, test_refusal, progress_in, move_refusal, move_answered, moved, journal_after}
+use Rattle.session.specs.Contract.{Answer, MoveAnswer, shown, config_of, answered, or_later, lent_refusal, standing, matches, test_refusal, progress_in, move_refusal, move_answered, moved, journal_after}
 use Rattle.reference.specs.Refusal.{too_short, bad_journal, refuse}
 use Rattle.reference.specs.Lists.{choose, with_front}
 use Rattle.reference.specs.Start.{Config, config_cause, start}

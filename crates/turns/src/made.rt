@@ -1,32 +1,24 @@
 // One turn on a record: its move, what the move makes, and the calls counted with it.
 ghost use Rattle.std.specs.Prelude.{◌≡◌};
+ghost use Rattle.state.specs.Refusal.{outcome};
 ghost use Rattle.script.specs.Association.{move_in};
-ghost use Rattle.turns.specs.Model.Turn.{turn_of, turn_result};
+ghost use Rattle.turns.specs.Model.Turn.{turn_of, Takes};
 
 use script::{Move, next_call};
+use session::journal::keep_move;
+use state::access::at;
+use state::refusal::Refusal;
 use state::{Position, Processor, State};
 use step::calls::note_move;
 use step::moves::moved;
 
-// Why the turn's move is refused, or 0; the move's action and operand; the state and the calls after it.
-#[derive(Clone, Copy)]
-pub(crate) struct Made {
-    pub refusal: u8,
-    pub action: u8,
-    pub operand: u8,
-    pub state: State,
-    pub calls: [u16; 33],
-}
-
 // The move of processor p, which is r: at App the next call of its current thread, elsewhere go.
-fn turn_move(r: Processor, calls: [u16; 33], scripts: &[u8], p: u8) -> Move
-    ensures { move_in result ≡ turn_of r calls scripts.now p }
+pub(crate) fn turn_move(r: Processor, calls: &[u16], scripts: &[u8], p: u8) -> Move
+    ensures { move_in result ≡ turn_of r calls.now scripts.now p }
 {
-    let k = r.current;
-    let i = k as usize;
-    let made = if i < 33 { calls[i] } else { 0 };
     if r.position == Position::APP {
-        return next_call(scripts, p, k, made);
+        let k = r.current;
+        return next_call(scripts, p, k, at(calls, k as usize));
     }
     Move {
         processor: p,
@@ -35,23 +27,22 @@ fn turn_move(r: Processor, calls: [u16; 33], scripts: &[u8], p: u8) -> Move
     }
 }
 
-// A turn of processor p; refused, state and calls stay.
-pub(crate) fn make_turn(state: State, calls: [u16; 33], scripts: &[u8], p: u8) -> Made
-    ensures { result ≡ turn_result state calls scripts.now p }
+// A turn of processor p: accepted, its move is stored behind the journal's, and a call is counted; refused, all stays.
+pub(crate) fn make_turn(
+    state: &mut State,
+    calls: &mut [u16],
+    journal: &mut [u8],
+    scripts: &[u8],
+    p: u8,
+) -> Result<(), Refusal>
+    ensures { Takes state.old calls.old journal.old scripts.now p (outcome result) state.new calls.new journal.new }
 {
-    let mut calls = calls;
-    let r = state.processor(p);
+    let before = *state;
+    let r = before.processor(p);
     let a = turn_move(r, calls, scripts, p);
-    let made = moved(state, p, a.action, a.operand);
-    if made.refusal == 0 {
-        note_move(&mut calls, a.action, r.current);
-    }
-    let state = made.state;
-    Made {
-        refusal: made.refusal,
-        action: a.action,
-        operand: a.operand,
-        state,
-        calls,
-    }
+    let after = moved(before, p, a.action, a.operand)?;
+    keep_move(journal, before.applied, p, a.action, a.operand);
+    note_move(calls, a.action, r.current);
+    *state = after;
+    Ok(())
 }

@@ -2,15 +2,15 @@
 ghost use Rattle.std.specs.Prelude.{◌≡◌, ◌||◌, ◌*◌, ltb};
 ghost use Rattle.reference.specs.Refusal.{too_short, refuse};
 ghost use Rattle.reference.specs.Session.{picture_size};
+ghost use Rattle.state.specs.Refusal.{outcome};
 ghost use Rattle.session.specs.Contract.{config_of, or_later, lent_refusal};
 ghost use Rattle.turns.specs.Model.Turn.{Ready, Given};
 
 use crate::made::make_turn;
 use picture::writer::put;
-use session::journal::keep_move;
 use session::lent;
 use state::layout::picture_bytes;
-use state::refusal::Refusal;
+use state::refusal::{Refusal, outcome};
 use state::{Session, State};
 
 // Why buffers of these lengths do not serve for n turns, or the record does not: 10 (journal), 15, 10 (answers, pictures).
@@ -20,20 +20,20 @@ pub(crate) fn unfit(
     n: usize,
     answers: usize,
     pictures: usize,
-) -> u8
-    ensures { result ≡ or_later (lent_refusal session journal) (refuse (ltb answers n || ltb pictures (n * picture_size (config_of session))) too_short 0) }
+) -> Result<(), Refusal>
+    ensures { outcome result ≡ or_later (lent_refusal session journal) (refuse (ltb answers n || ltb pictures (n * picture_size (config_of session))) too_short 0) }
 {
-    let first = lent(session, journal);
-    if first != 0 {
-        return first;
-    }
+    lent(session, journal)?;
     let state = session.state;
     let size = picture_bytes(state.p, state.t, state.m);
-    let full = (answers < n) | (pictures / size < n);
-    if full { Refusal::TOO_SHORT } else { 0 }
+    if (answers < n) | (pictures / size < n) {
+        return Err(Refusal::TooShort);
+    }
+    Ok(())
 }
 
 // The turns one after the other, where nothing refuses the class. Pictures are as long as the record's sizes say.
+// kept: answers and pictures are written by index, since after chunks_exact_mut or iter_mut a proof does not know what stands in them.
 pub(crate) fn take_turns(
     session: Session,
     calls: [u16; 33],
@@ -49,21 +49,10 @@ pub(crate) fn take_turns(
     let mut state = session.state;
     let mut calls = calls;
     let size = picture_bytes(state.p, state.t, state.m);
-    let mut at: usize = 0;
-    let mut i: usize = 0;
-    while i < turns.len() {
-        let p = turns[i];
-        let n = state.applied;
-        let done = make_turn(state, calls, scripts, p);
-        keep_move(journal, done.refusal, n, p, done.action, done.operand);
-        answers[i] = done.refusal;
-        let next = done.state;
-        let counted = done.calls;
-        let _fits = put(&mut pictures[at..], next);
-        state = next;
-        calls = counted;
-        at += size;
-        i += 1;
+    for (i, p) in turns.iter().enumerate() {
+        let done = make_turn(&mut state, &mut calls, journal, scripts, *p);
+        answers[i] = outcome(done);
+        let _fits = put(&mut pictures[i * size..], state);
     }
     state
 }

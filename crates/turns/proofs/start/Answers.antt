@@ -1,28 +1,27 @@
 -- `turns::start` meets its contract.
 -- Assumes nothing.
-use mathlib.Core.Path.{sym, ◌∙◌}
+use Rattle.std.proofs.lemmas.Result.{err_from_is_err_and}
 use Rattle.session.specs.Contract.{table}
-use Rattle.turns.proofs.Answers.{start-refused, start-taken, start_unscripted}
+use Rattle.state.specs.Refusal.{outcome}
+use Rattle.turns.proofs.Answers.{start-refused, start_unscripted, start-taken}
 use Rattle.turns.proofs.start.Goals as goal
 
-pub returns-then-begun-ne0 : goal.returns-then-begun-ne0
-returns-then-begun-ne0 c =
+pub returns-in_err-begun : goal.returns-in_err-begun
+unfolding outcome
+returns-in_err-begun c =
+    let t = err_from_is_err_and c.from_residual.result c.from_residual.ensures.1 in
     let a = c.args in
-    let s = c.start-begun in
-    start-refused (table a.p a.t a.m a.b a.stealing) a.scripts.now s.result s.ensures c.if-begun-ne0.true
+    rw (t.1, t.2) (start-refused (table a.p a.t a.m a.b a.stealing) a.scripts.now c.in_err-begun.field-0.0 c.in_err-begun.ensures)
 
-pub returns-then-ok : goal.returns-then-ok
-returns-then-ok c =
-    let i = c in
-    let a = i.args in
-    let s = i.start-begun in
-    start-taken (table a.p a.t a.m a.b a.stealing) a.scripts.now s.result s.ensures i.if-begun-ne0.false (sym c.scripts_ok-ok.ensures ∙ c.if-ok.true)
+pub returns-in_err-test_scripts : goal.returns-in_err-test_scripts
+unfolding outcome
+returns-in_err-test_scripts c =
+    let t = err_from_is_err_and c.from_residual-in_err-test_scripts.result c.from_residual-in_err-test_scripts.ensures.1 in
+    let a = c.args in
+    rw (t.1, t.2) (start_unscripted (table a.p a.t a.m a.b a.stealing) a.scripts.now c.in_ok-begun.begun c.in_ok-begun.ensures c.in_err-test_scripts.field-0.0 c.in_err-test_scripts.ensures)
 
 pub returns : goal.returns
+unfolding outcome
 returns c =
-    let e = c in
-    let i = e in
-    let a = i.args in
-    let s = i.start-begun in
-    rw c.zero-state.ensures
-    (start_unscripted (table a.p a.t a.m a.b a.stealing) a.scripts.now s.result s.ensures i.if-begun-ne0.false (sym e.scripts_ok-ok.ensures ∙ e.if-ok.false))
+    let a = c.args in
+    start-taken (table a.p a.t a.m a.b a.stealing) a.scripts.now c.in_ok-begun.begun c.in_ok-begun.ensures c.in_ok-test_scripts.ensures

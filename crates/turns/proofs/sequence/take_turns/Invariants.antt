@@ -1,8 +1,7 @@
 -- `turns::sequence::take_turns` meets its contract. The invariant speaks of any B and number kept, since the loop does not look at the record's.
 -- Assumes nothing.
-use Prim.Native.Nat.{ℕ, ◌-◌}
+use Prim.Native.Nat.{ℕ}
 use mathlib.Core.Path.{◌≡◌}
-use lib.ListN.{length}
 use Rattle.state.specs.declared.State.{State}
 use Rattle.state.specs.declared.Session.{Session}
 use Rattle.state.specs.Record.{Sized}
@@ -20,7 +19,4 @@ abbrev pub invariant-loop-i : goal.invariant-loop-i
 invariant-loop-i l =
     (b k : ℕ) (z : Sized l.initial.state) (none : class_refusal (with_b l.initial.state b k) l.initial.journal l.scripts l.turns l.initial.answers l.initial.pictures ≡ 0) →
     l.initial.calls ≡ tabulate (progress_in (with_b l.initial.state b k) l.initial.journal) 0 33 →
-    Going (with_b l.initial.state b k) z l.initial.journal l.scripts l.turns l.initial.answers l.initial.pictures none l.i l.at l.state l.calls l.journal l.answers l.pictures
-
-abbrev pub decreases-loop-i : goal.decreases-loop-i
-decreases-loop-i l = length l.turns - l.i
+    Going (with_b l.initial.state b k) z l.initial.journal l.scripts l.turns l.initial.answers l.initial.pictures none l.i l.state l.calls l.journal l.answers l.pictures

@@ -1,22 +1,26 @@
 -- `turns::sequence::unfit` meets its contract.
 -- Assumes nothing.
-use mathlib.Core.Path.{sym, ◌∙◌}
+use mathlib.Core.Path.{sym}
 use native.Mathlib.Omega.{arith}
-use Rattle.session.proofs.Answers.{or_first}
-use Rattle.turns.proofs.Answers.{unfit_some, unfit_none}
+use Rattle.std.proofs.lemmas.Result.{err_from_is_err_and}
+use Rattle.state.specs.Refusal.{outcome, number}
+use Rattle.turns.proofs.Answers.{refused_first, unfit_some, unfit_none}
 use Rattle.turns.proofs.sequence.unfit.Goals as goal
 
-pub returns-then-first-ne0 : goal.returns-then-first-ne0
-returns-then-first-ne0 c = or_first c.lent-first.result _ _ c.lent-first.ensures c.if-first-ne0.true
+pub returns-in_err-lent : goal.returns-in_err-lent
+unfolding outcome
+returns-in_err-lent c =
+    let t = err_from_is_err_and c.from_residual.result c.from_residual.ensures.1 in
+    rw (t.1, t.2) (refused_first c.in_err-lent.field-0.0 _ _ c.in_err-lent.ensures)
 
-pub returns-then-full : goal.returns-then-full
-returns-then-full c =
-    let f = c in
-    let a = f.args in
-    unfit_some _ (sym f.lent-first.ensures ∙ f.if-first-ne0.false) a.answers a.pictures a.n _ _ c.picture_bytes-size.ensures (omega arith) c.if-full.true
+pub returns-then-answers-n : goal.returns-then-answers-n
+unfolding outcome number
+returns-then-answers-n c =
+    let a = c.args in
+    unfit_some _ (sym c.in_ok-lent.ensures) a.answers a.pictures a.n _ _ c.picture_bytes-size.ensures (omega arith) c.if-answers-n.true
 
-pub returns-else-full : goal.returns-else-full
-returns-else-full c =
-    let f = c in
-    let a = f.args in
-    unfit_none _ (sym f.lent-first.ensures ∙ f.if-first-ne0.false) a.answers a.pictures a.n _ _ c.picture_bytes-size.ensures (omega arith) c.if-full.false
+pub returns : goal.returns
+unfolding outcome
+returns c =
+    let a = c.args in
+    unfit_none _ (sym c.in_ok-lent.ensures) a.answers a.pictures a.n _ _ c.picture_bytes-size.ensures (omega arith) c.if-answers-n.false
