@@ -164,5 +164,14 @@ pub written_column : (p : Page) (x : List ℕ) (w : ℕ) → written (written p 
 unfolding written
 written_column p x w = let e = column (buffer_of p.bytes.now p.len) _ x w refl in rw e
 
--- what comes of texts put on a page one after the other
+-- the same two from the whole text to its parts
+pub written_append : (p : Page) (x y : List ℕ) → written p (x ++ y) ≡ written (written p x) y
+written_append p x y = sym (written_twice p x y)
+
+pub written_padded : (p : Page) (w : ℕ) (x : List ℕ) → written p (padded w x) ≡ written (written p x) (spaces (w - ((written p x).len - p.len)))
+written_padded p w x = sym (written_column p x w)
+
+-- a text put part by part, and what comes of texts put one after the other
+pub ruleset page_parts = (written_append, written_padded, written_none)
+
 pub ruleset page_steps = (common_steps, written_twice, written_none, written_column)

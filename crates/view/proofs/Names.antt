@@ -7,13 +7,16 @@ use native.Mathlib.Omega.{arith}
 use mathlib.Core.Bool.{Bool, true, false, cond}
 use mathlib.Core.Path.{◌≡◌, refl, sym, ap, ◌∙◌}
 use mathlib.Core.List.{List, [], ◌∷◌, ◌++◌, append-nil}
-use lib.Dec.{eqb, leb}
+use lib.Dec.{leb}
 use lib.ListN.{length, get_or, take, drop, length-drop, drop_of_length-le}
 use lib.Seq.{drop-cons, take-length, take_all, drop-length}
 use borrow.Author.Tests.{eq-eqb, ne_eqb, leb-true, leb-false}
 use Rattle.reference.specs.Lists.{if_zero}
 use Rattle.command.specs.Command.{field}
 use Rattle.command.specs.Printing.{text, decimal, wide}
+use Rattle.command.specs.declared.printing.Page.{Page}
+use Rattle.command.specs.Printing.{written}
+use Rattle.command.proofs.Put.{written_twice, written_none}
 use Rattle.state.specs.declared.Token.{Token}
 use Rattle.reference.specs.Touch.{Word, Touch, kind, number, same_word}
 use Rattle.view.specs.Words.{trimmed, word_at, kind_word, token_text, word_text, mark}
@@ -22,29 +25,6 @@ use Rattle.view.specs.Words.{trimmed, word_at, kind_word, token_text, word_text,
 
 pub byte_times : (a b : ℕ) → a ≤ 255 → b ≤ 255 → a * b ≤ 65025
 byte_times a b h k = mul-le-mul h k
-
-pub trimmed_space : (l : List ℕ) (i : ℕ) → i < length l → get_or l i 0 ≡ 32 → length (trimmed (drop i l)) ≡ 0
-unfolding trimmed
-trimmed_space l i h e = rw (drop-cons l i 0, eq-eqb _ _ e)
-
-pub trimmed-byte : (l : List ℕ) (i : ℕ) → i < length l → (get_or l i 0 ≡ 32 → ⊥) → length (trimmed (drop i l)) ≡ 1 + length (trimmed (drop (i + 1) l))
-unfolding trimmed
-trimmed-byte l i h e = rw (add-one, drop-cons l i 0, ne_eqb _ _ e) (omega arith)
-
-pub trimmed-end : (l : List ℕ) → length (trimmed (drop (length l) l)) ≡ 0
-unfolding trimmed
-trimmed-end [] = refl
-trimmed-end (b ∷ l) = trimmed-end l
-
--- a word is the front of what it is trimmed from
-pub trimmed-front : (l : List ℕ) → take (length (trimmed l)) l ≡ trimmed l
-unfolding trimmed
-trimmed-front [] = refl
-trimmed-front (b ∷ l) = go (eqb b 32) (trimmed-front l)
-  where
-    go : (t : Bool) → take (length (trimmed l)) l ≡ trimmed l → take (length (cond t [] (b ∷ trimmed l))) (b ∷ l) ≡ cond t [] (b ∷ trimmed l)
-    go true h = refl
-    go false h = ap (λ (x : List ℕ). b ∷ x) h
 
 -- a count beyond the length is as good as the length
 most : (f : ℕ → List ℕ) (n m : ℕ) → (m ≤ n → f m ≡ f n) → f (min n m) ≡ f n
@@ -66,13 +46,9 @@ cut l a width from upto e f =
     let n : upto - from ≡ min width (length (drop a l)) = rw (length-drop a l) (omega arith) in
     rw n (rw e (ap (take (min width (length (drop a l)))) (drop-most a l)) ∙ take-most width (drop a l))
 
-pub cut-count : (l : List ℕ) (n : ℕ) → n ≡ length (trimmed l) → n ≡ length (take n l)
-cut-count l n e = e ∙ sym (rw e (ap length (trimmed-front l)))
-
--- a word is the front of what is cut out of its table
-pub cut_word : (width n : ℕ) (l x : List ℕ) (end : ℕ) → x ≡ take width (drop (width * n) l) → end ≡ length (trimmed x) → take end x ≡ word_at width l n
+pub cut_word : (width n : ℕ) (l : List ℕ) (from upto : ℕ) → from ≡ min (width * n) (length l) → upto ≡ min (width * n + width) (length l) → trimmed (take (upto - from) (drop from l)) ≡ word_at width l n
 unfolding word_at
-cut_word width n l x end e f = rw f (trimmed-front x) ∙ ap trimmed e
+cut_word width n l from upto e f = ap trimmed (cut l (width * n) width from upto e f)
 
 -- ---- none and some
 
@@ -102,3 +78,25 @@ pub mark_of : (t : Touch) (w : Word) (read written : Bool) → read ≡ same_wor
     → cond read (cond written (text " rw") (text " r")) (cond written (text " w") []) ≡ mark t w
 unfolding mark
 mark_of t w read written e f = rw (e, f)
+
+-- ---- a word put byte by byte
+
+-- the rest of a word behind what is put
+pub word_more : (p q r : Page) (l : List ℕ) (i : ℕ) → written q (trimmed (drop i l)) ≡ written p (trimmed l) → i < length l → (get_or l i 0 ≡ 32 → ⊥) → r ≡ written q (get_or l i 0 ∷ [])
+    → written r (trimmed (drop (i + 1) l)) ≡ written p (trimmed l)
+unfolding trimmed
+word_more p q r l i e h n f =
+    let t : trimmed (drop i l) ≡ get_or l i 0 ∷ trimmed (drop (i + 1) l) = rw (add-one, drop-cons l i 0, ne_eqb _ _ n) in
+    rw (f, written_twice, ← t) e
+
+pub word_space : (p q : Page) (l : List ℕ) (i : ℕ) → written q (trimmed (drop i l)) ≡ written p (trimmed l) → i < length l → get_or l i 0 ≡ 32 → q ≡ written p (trimmed l)
+unfolding trimmed
+word_space p q l i e h n =
+    let t : trimmed (drop i l) ≡ [] = rw (drop-cons l i 0, eq-eqb _ _ n) in
+    sym (written_none q) ∙ (rw t at e)
+
+pub word_end : (p q : Page) (l : List ℕ) (i : ℕ) → written q (trimmed (drop i l)) ≡ written p (trimmed l) → length l ≤ i → q ≡ written p (trimmed l)
+unfolding trimmed
+word_end p q l i e h =
+    let t : trimmed (drop i l) ≡ [] = rw (drop_of_length-le l {i = i} h) in
+    sym (written_none q) ∙ (rw t at e)

@@ -4,66 +4,64 @@ use Prim.Native.Nat.{ℕ, zero, suc, ◌+◌, ◌≤◌, ◌<◌}
 use native.Mathlib.Numerals.{add-one}
 use native.Mathlib.Omega.{arith}
 use mathlib.Core.Bool.{Bool, true, false, cond}
-use mathlib.Core.Path.{◌≡◌, refl, sym, ap, ◌∙◌}
-use mathlib.Core.List.{List, [], ◌∷◌, ◌++◌}
+use mathlib.Core.Path.{◌≡◌, refl, sym, ap, subst, ◌∙◌}
+use mathlib.Core.List.{List, [], ◌∷◌, ◌++◌, append-nil, append_assoc}
 use lib.Dec.{eqb}
 use lib.ListN.{length}
 use borrow.Author.Tests.{eq-eqb, eqb-true}
 use Rattle.command.specs.Command.{field}
-use Rattle.command.specs.Printing.{text, Buffer, add}
-use Rattle.command.proofs.Put.{add-add, add_none, add-full, add-length}
+use Rattle.command.specs.declared.printing.Page.{Page}
+use Rattle.command.specs.Printing.{text, Buffer, buffer_of, add, written}
+use Rattle.command.proofs.Put.{add-full, add-length, written_twice, written_none}
 use Rattle.state.specs.declared.Thread.{Thread}
 use Rattle.state.specs.Record.{chain}
 use Rattle.command.specs.Request.{fields}
 use Rattle.view.specs.Words.{or_none, rows}
 
--- a text and what follows it
-step : (p q : Buffer) (x y : List ℕ) → q ≡ add p x → add q y ≡ add p (x ++ y)
-step p q x y e = rw e (add-add p x y)
+-- ---- rows, put one after the other
 
--- ---- rows
-
-pub row_next : (f : ℕ → List ℕ) (p q : Buffer) (k n a b : ℕ) → a ≡ k + 1 → n ≡ b + 1 → q ≡ add p (f k) → add q (rows f a b) ≡ add p (rows f k n)
+pub rows_begun : (f : ℕ → List ℕ) (p : Page) (lo : ℕ) → p ≡ written p (rows f lo 0)
 unfolding rows
-row_next f p q k n a b e g h = rw (e, g, add-one k, add-one b) (step p q (f k) (rows f (suc k) b) h)
+rows_begun f p lo = sym (written_none p)
 
-pub rows_end : (f : ℕ → List ℕ) (p : Buffer) (k n : ℕ) → n ≡ 0 → add p (rows f k n) ≡ p
+rows-last : (f : ℕ → List ℕ) (lo i : ℕ) → rows f lo (suc i) ≡ rows f lo i ++ f (lo + i)
 unfolding rows
-rows_end f p k n e = rw e (add_none p)
+rows-last f lo zero = let e : lo + 0 ≡ lo = omega arith in rw (e, append-nil)
+rows-last f lo (suc i) = let e : suc lo + i ≡ lo + suc i = omega arith in ap (λ (x : List ℕ). f lo ++ x) (rows-last f (suc lo) i) ∙ rw (e, append_assoc)
+
+pub rows_more : (f : ℕ → List ℕ) (p q r : Page) (lo i : ℕ) → q ≡ written p (rows f lo i) → r ≡ written q (f (lo + i)) → r ≡ written p (rows f lo (i + 1))
+rows_more f p q r lo i e h = h ∙ rw (e, written_twice, add-one i, rows-last)
 
 -- ---- the threads of a chain
 
-pub chain_next : (thread : ℕ → Thread) (p q : Buffer) (k n b : ℕ) → (k ≡ 0 → ⊥) → n ≡ b + 1 → q ≡ add p (field k)
-    → add q (fields (chain thread b (thread k).next)) ≡ add p (fields (chain thread n k))
+pub chain_next : (thread : ℕ → Thread) (p q : Page) (k n b : ℕ) → (k ≡ 0 → ⊥) → n ≡ b + 1 → q ≡ written p (field k)
+    → written q (fields (chain thread b (thread k).next)) ≡ written p (fields (chain thread n k))
 unfolding chain fields
 chain_next thread p q zero n b h g e = absurd (h refl)
-chain_next thread p q (suc k) n b h g e = rw (g, add-one b) (step p q (field (suc k)) (fields (chain thread b (thread (suc k)).next)) e)
+chain_next thread p q (suc k) n b h g e = rw (g, add-one b, e, written_twice)
 
-pub chain-stop : (thread : ℕ → Thread) (p : Buffer) (n k : ℕ) → k ≡ 0 → add p (fields (chain thread n k)) ≡ p
+pub chain_stop : (thread : ℕ → Thread) (p : Page) (n k : ℕ) → k ≡ 0 → written p (fields (chain thread n k)) ≡ p
 unfolding chain fields
-chain-stop thread p zero k e = add_none p
-chain-stop thread p (suc n) k e = rw e (add_none p)
+chain_stop thread p zero k e = written_none p
+chain_stop thread p (suc n) k e = rw e (written_none p)
 
-pub chain-end : (thread : ℕ → Thread) (p : Buffer) (n k : ℕ) → n ≡ 0 → add p (fields (chain thread n k)) ≡ p
+pub chain_end : (thread : ℕ → Thread) (p : Page) (n k : ℕ) → n ≡ 0 → written p (fields (chain thread n k)) ≡ p
 unfolding chain fields
-chain-end thread p n k e = rw e (add_none p)
+chain_end thread p n k e = rw e (written_none p)
 
 -- ---- a dash for none
 
--- a text of one byte or more that adds none finds the buffer full
+-- a text of one byte or more that adds none finds the page full
 filled : (p : Buffer) (x : List ℕ) → 0 < length x → (add p x).len ≡ p.len → length (add p x).bytes ≤ (add p x).len
 unfolding add
 filled p x h l = let n = add-length p x in omega arith
 
-none-fits : (p q : Buffer) (x : List ℕ) → 0 < length x → q ≡ add p x → q.len ≡ p.len → length q.bytes ≤ q.len
-none-fits p q x h e f = rw e (filled p x h (ap (λ (b : Buffer). b.len) (sym e) ∙ f))
-
 -- a text, and a dash where none was put
-pub dashed : (p q r : Buffer) (x : List ℕ) → q ≡ add p x → r ≡ add q (cond (eqb q.len p.len) (text " -") []) → r ≡ add p (or_none x)
-unfolding or_none
-dashed p q r [] e f = let s = e ∙ add_none p in f ∙ rw (s, eq-eqb p.len p.len refl)
-dashed p q r (b ∷ l) e f = go (eqb q.len p.len) refl f ∙ e
+pub dashed : (p : Page) (x : List ℕ) → written (written p x) (cond (eqb (written p x).len p.len) (text " -") []) ≡ written p (or_none x)
+unfolding or_none written
+dashed p [] = subst (λ (q : Page). written q (cond (eqb q.len p.len) (text " -") []) ≡ written p (text " -")) (sym (written_none p)) (rw (eq-eqb p.len p.len refl))
+dashed p (b ∷ l) = go (eqb (written p (b ∷ l)).len p.len) refl
   where
-    go : (t : Bool) → eqb q.len p.len ≡ t → r ≡ add q (cond t (text " -") []) → r ≡ q
-    go true g h = h ∙ add-full q (text " -") (none-fits p q (b ∷ l) (omega arith) e (eqb-true q.len p.len g))
-    go false g h = h ∙ add_none q
+    go : (t : Bool) → eqb (written p (b ∷ l)).len p.len ≡ t → written (written p (b ∷ l)) (cond t (text " -") []) ≡ written p (b ∷ l)
+    go true g = let e = add-full (add (buffer_of p.bytes.now p.len) (b ∷ l)) (text " -") (filled (buffer_of p.bytes.now p.len) (b ∷ l) (omega arith) (eqb-true _ p.len g)) in rw e
+    go false g = written_none (written p (b ∷ l))

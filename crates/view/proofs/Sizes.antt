@@ -7,12 +7,11 @@ use mathlib.Core.Bool.{Bool, true, false, cond, not}
 use mathlib.Core.Path.{◌≡◌, refl}
 use mathlib.Core.List.{List, [], ◌∷◌, ◌++◌}
 use lib.Dec.{eqb, ltb}
-use lib.ListN.{length, take, drop, length-append, length-take}
+use lib.ListN.{length, take, drop, length-append, length-take, length-replicate}
 use borrow.Author.Tests.{eqb-true, not-false}
 use Rattle.command.specs.Command.{field}
 use Rattle.command.specs.Printing.{text, decimal, wide, padded, line_feed}
 use Rattle.command.proofs.Lines.{decimal-length}
-use Rattle.command.proofs.Put.{spaces-length}
 use Rattle.reference.specs.Lists.{if_zero}
 use Rattle.reference.specs.Touch.{Word, count, token, queue, ready, birth, Touch, same_word}
 use Rattle.reference.proofs.Tests.{both_left, ◌and◌, range_true, passed}
@@ -81,7 +80,7 @@ marked-length k x t w h = simp length-append (omega (arith, mark-length t w))
 -- a column is as wide as the heading or its longest entry
 column_length : (width k : ℕ) (x : List ℕ) → length x ≤ k → length (padded width x) ≤ max width k
 unfolding padded
-column_length width k x h = simp (length-append, spaces-length) (omega arith)
+column_length width k x h = simp (length-append, length-replicate) (omega arith)
 
 -- ---- lists of threads
 

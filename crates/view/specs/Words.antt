@@ -1,9 +1,11 @@
 -- Names, numbers, tokens, shared words and lists of threads as a person reads them.
 -- Assumes nothing.
-use Rattle.std.specs.Prelude.{ℕ, zero, suc, ◌*◌, cond, List, [], ◌∷◌, ◌++◌, eqb, take, drop}
+use Rattle.std.specs.Borrow.{MutBor}
+use Rattle.std.specs.Prelude.{ℕ, zero, suc, ◌+◌, ◌*◌, ◌<◌, ◌≤◌, ◌≡◌, cond, List, [], ◌∷◌, ◌++◌, eqb, take, drop}
 use Rattle.command.specs.Command.{field}
 use Rattle.command.specs.Request.{fields}
-use Rattle.command.specs.Printing.{text, decimal, wide}
+use Rattle.command.specs.declared.printing.Page.{Page}
+use Rattle.command.specs.Printing.{text, decimal, wide, written}
 use Rattle.state.specs.declared.Token.{Token}
 use Rattle.reference.specs.Lists.{if_zero}
 use Rattle.reference.specs.Touch.{Word, Touch, kind, number, same_word}
@@ -83,3 +85,8 @@ listed l = or_none (fields l)
 unfoldable pub rows : (ℕ → List ℕ) → ℕ → ℕ → List ℕ
 rows f k zero = []
 rows f k (suc n) = f k ++ rows f (suc k) n
+
+-- q is the page p with a row of each of the n numbers from lo on, none above 255, where `Puts x i y` says that the row of i may leave the page x as y
+abbrev pub PutsEach : (MutBor Page → ℕ → MutBor Page → Type 0) → ℕ → ℕ → Page → Page → Type 0
+PutsEach Puts lo n p q =
+    (f : ℕ → List ℕ) → ((i : ℕ) → i < 256 → (x y : MutBor Page) → Puts x i y → y.now ≡ written x.now (f i)) → lo + n ≤ 256 → q ≡ written p (rows f lo n)

@@ -2,28 +2,29 @@
 #![tactic(auto)]
 
 ghost use Rattle.std.specs.Prelude.{◌≡◌};
-ghost use Rattle.command.specs.Printing.{buffer_of, add};
+ghost use Rattle.command.specs.Printing.{written};
 ghost use Rattle.touch.specs.Association.{touch_shown};
 ghost use Rattle.view.specs.Table.{view_text};
 
-mod cells;
+mod each;
 mod lists;
 mod table;
 pub mod words;
 
-use command::printing::{put, put_number};
+use crate::table::Table;
+use command::printing::Page;
 use state::State;
 use state::refusal::Refusal;
 use touch::Touch;
 
-// The table into the buffer behind its first `at` bytes, as much as fits, with a mark behind each word that was touched; of a record that breaks a rule, 15. How many bytes count then.
-pub fn view(out: &mut [u8], at: usize, state: State, touch: Touch) -> usize
-    ensures { buffer_of out.new result ≡ add (buffer_of out.old at) (view_text state (touch_shown touch)) }
+// The table put on a page, with a mark behind each word that was touched; of a record that breaks a rule, 15.
+#[tactic(auto, unfolding(crate::specs::Table::view_text, state::specs::Refusal::number))]
+pub fn view(page: &mut Page, state: State, touch: Touch)
+    ensures { page.new ≡ written page.old (view_text state (touch_shown touch)) }
 {
-    let ok = rules::state_ok(state);
-    if ok {
-        return table::put_table(out, at, state, touch);
+    if rules::state_ok(state) {
+        Table { state, touch }.put(page);
+    } else {
+        page.number_line(Refusal::BadRecord.number());
     }
-    let end = put_number(out, at, Refusal::BAD_RECORD);
-    put(out, end, b"\n")
 }

@@ -1,6 +1,0 @@
--- `view::cells::wide_cell` meets its contract.
-use Rattle.command.proofs.Put.{cell}
-use Rattle.view.proofs.cells.wide_cell.Goals as goal
-
-pub returns : goal.returns
-returns c = cell _ _ _ _ _ c.put_wide-end.ensures c.pad.ensures

@@ -1,7 +1,0 @@
--- `view::words::put_line_name` meets its contract.
-use Rattle.command.specs.Printing.{text}
-use Rattle.view.proofs.words.put_line_name.Goals as goal
-
-pub returns : goal.returns
-unfolding text
-returns c = c.put_word.ensures
