@@ -1,10 +1,9 @@
 -- What loops put on a page, and the chart.
 -- Assumes nothing.
-use Prim.Native.Nat.{ℕ, zero, suc, ◌+◌, ◌-◌, ◌*◌, ◌≤◌, ◌<◌}
-use native.Mathlib.Numerals.{add-one}
+use Prim.Native.Nat.{ℕ, suc, ◌+◌, ◌-◌, ◌*◌, ◌≤◌, ◌<◌}
 use native.Mathlib.Omega.{arith}
 use mathlib.Core.Bool.{true}
-use mathlib.Core.List.{List, [], ◌∷◌, ◌++◌, append_assoc, append-nil}
+use mathlib.Core.List.{List, [], ◌∷◌, ◌++◌}
 use mathlib.Core.Path.{◌≡◌, refl, sym, ap, ◌∙◌, subst}
 use lib.ListN.{get_or, drop}
 use lib.Seq.{get_or-drop, drop-drop}
@@ -12,7 +11,6 @@ use borrow.Author.Tests.{eq-eqb}
 use Rattle.std.specs.Prelude.{Result, Ok, Err}
 use Rattle.std.specs.Result.{result_unwrap_or}
 use Rattle.command.specs.Printing.{decimal, line_feed}
-use Rattle.view.specs.Words.{rows}
 use Rattle.session.specs.Contract.{config_of, standing, test_refusal, tested, tested_of}
 use Rattle.session.proofs.Reached.{moved-reached}
 use Rattle.session.proofs.Testing.{tested-number}
@@ -36,25 +34,6 @@ use Rattle.reference.proofs.Legal.{accepted_cons}
 use Rattle.reference.proofs.Moves.{run_snoc, accepted_snoc}
 use Rattle.chart.specs.Chart.{row, heading, moves_chart, chart_text}
 use Rattle.chart.specs.Model.Made.{after, made_chart}
-
--- ---- rows
-
-rows_last : (f : ℕ → List ℕ) (k n : ℕ) → rows f k (suc n) ≡ rows f k n ++ f (k + n)
-unfolding rows
-rows_last f k zero = let e : k + 0 ≡ k = omega arith in rw e (append-nil (f k))
-rows_last f k (suc n) =
-    let e : suc k + n ≡ k + suc n = omega arith in
-    ap (λ (l : List ℕ). f k ++ l) (rows_last f (suc k) n ∙ ap (λ (i : ℕ). rows f (suc k) n ++ f i) e) ∙ sym (append_assoc (f k) (rows f (suc k) n) (f (k + suc n)))
-
--- one more
-pub rows_more : (f : ℕ → List ℕ) (k n : ℕ) → rows f k (n + 1) ≡ rows f k n ++ f (k + n)
-rows_more f k n = rw add-one (rows_last f k n)
-
-pub rows_none : (f : ℕ → List ℕ) (k : ℕ) → rows f k 0 ≡ []
-unfolding rows
-rows_none f k = refl
-
-pub ruleset rows_steps = (rows_more, rows_none)
 
 -- ---- moves of a journal
 

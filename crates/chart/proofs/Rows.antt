@@ -3,12 +3,12 @@
 use Prim.Native.Nat.{ℕ, ◌+◌, ◌-◌, ◌*◌}
 use mathlib.Core.Bool.{Bool, true, false}
 use mathlib.Core.List.{List, ◌++◌, append-nil}
-use mathlib.Core.Path.{◌≡◌, refl, sym, ap, ◌∙◌}
+use mathlib.Core.Path.{◌≡◌, refl, ap, ◌∙◌}
 use borrow.Author.Tests.{eq-eqb, ne_eqb}
 use Rattle.command.specs.Command.{field}
 use Rattle.command.specs.declared.printing.Page.{Page}
-use Rattle.command.specs.Printing.{text, spaces, padded, written}
-use Rattle.command.proofs.Put.{written_twice, written_none, written_column}
+use Rattle.command.specs.Printing.{text, spaces, written}
+use Rattle.command.proofs.Put.{written_twice, written_column}
 use Rattle.view.specs.Words.{line_name, action_word}
 use Rattle.state.specs.declared.Thread.{Thread}
 use Rattle.state.specs.declared.State.{State}

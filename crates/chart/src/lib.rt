@@ -18,12 +18,12 @@ use state::{Session, State};
 use step::moves::moved;
 
 // The numbers of the processors above their columns.
-#[tactic(auto, using(command::proofs::Put::page_steps, crate::proofs::Loops::rows_steps))]
+#[tactic(auto, using(command::proofs::Put::page_steps, view::proofs::Rows::rows_begun, view::proofs::Rows::rows_more))]
 fn put_columns(page: &mut Page, count: u8)
     ensures { page.new ≡ written page.old (rows column_head 1 count) }
 {
     for i in 0..count {
-        page.column(11, |page| page.number(i + 1));
+        page.column(11, |page| page.number(1 + i));
     }
 }
 
