@@ -11,8 +11,6 @@ use native.Mathlib.Decide.{dec_le}
 use lib.Dec.{eqb, ltb}
 use lib.ListN.{length}
 use borrow.Author.Tests.{eq-eqb, ne_eqb, lt-ltb}
-use Rattle.ahead.specs.declared.answer.Ahead.{Ahead}
-use Rattle.ahead.specs.declared.answer.Ahead.TheVariants.{NotWaiting, Refused}
 use Rattle.state.specs.declared.Thread.{Thread}
 use Rattle.state.specs.declared.State.{State}
 use Rattle.state.specs.Record.{thread_of, Sized}
@@ -29,7 +27,7 @@ use Rattle.association.proofs.Spots.{Placed, allowed-placed}
 use Rattle.association.proofs.Shown.{allowed-fits, read-entry}
 use Rattle.shown.proofs.Encode.{encode-decode, decode-allowed}
 use Rattle.overtaking.specs.Ahead.{waits_for, turns_at, overtakable}
-use Rattle.ahead.specs.Turns.{meaning, waiting_for, turns_ahead, ahead_refusal, ahead, answer}
+use Rattle.ahead.specs.Turns.{NotWaiting, Refused, meaning, waiting_for, turns_ahead, ahead_refusal, ahead, answer}
 use Rattle.ahead.specs.Model.Waiting.{chain_turns, marked, chain_answer}
 use Rattle.ahead.proofs.Mark.{mark-shown}
 
@@ -144,6 +142,3 @@ meaning-ahead r k = go (ahead_refusal r k) (waits_for (decode r) k)
     go zero zero = refl
     go zero (suc m) = rw (lt-ltb 0 (suc m) (omega arith)) (meaning-waiting _ _)
     go (suc n) m = refl
-
-pub both_ways : (a : Ahead) (r : State) (k : ℕ) → a ≡ ahead r k → (a ≡ ahead r k) × (meaning a ≡ answer r k)
-both_ways a r k e = (e, ap meaning e ∙ meaning-ahead r k)

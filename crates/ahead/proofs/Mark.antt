@@ -9,7 +9,6 @@ use lib.Dec.{eqb, ltb}
 use lib.ListN.{get_or}
 use borrow.Author.Tests.{ne_eqb, lt-ltb}
 use Rattle.state.specs.declared.Processor.{Processor}
-use Rattle.state.specs.declared.Mutex.{Mutex}
 use Rattle.state.specs.declared.State.{State}
 use Rattle.state.specs.Record.{processor_of, mutex_of}
 use Rattle.state.specs.Association.{decode, processor_shown, mutex_shown}
@@ -21,11 +20,6 @@ use Rattle.reference.proofs.Sums.{tabulate-at}
 use Rattle.state.proofs.Past.{read_past}
 use Rattle.overtaking.specs.Ahead.{at_H5, overtakable}
 use Rattle.ahead.specs.Model.Waiting.{offering, marked}
-
--- the mark, by what was read
-pub marked_by : (r : State) (m : ℕ) (y : Mutex) (none : Bool) → y ≡ mutex_of r m → none ≡ each (λ p. not (offering m (processor_of r p))) 1 r.p → ltb 0 y.token.processor || not none ≡ marked r m
-unfolding marked
-marked_by r m y none e h = rw (e, h)
 
 -- line 18 is H5, and no other is
 line-H5 : (n : ℕ) → same_line (line_of n) H5 ≡ eqb n 18

@@ -1,8 +1,9 @@
 -- The answer about a thread's turns ahead: what each case means, and which one it is on all inputs.
 -- Assumes nothing.
-use Rattle.std.specs.Prelude.{ℕ, Bool, true, false, not, ltb}
-use Rattle.ahead.specs.declared.answer.Ahead.{Ahead}
-use Rattle.ahead.specs.declared.answer.Ahead.TheVariants.{InTurn, Overtakable, NotWaiting, Refused}
+use Rattle.std.specs.Prelude.{ℕ, Bool, true, false, not, ltb, Option, None, Some, Result, Ok, Err}
+use Rattle.ahead.specs.declared.Place.{Place}
+use Rattle.state.specs.declared.refusal.Refusal.{Refusal}
+use Rattle.state.specs.Refusal.{number}
 use Rattle.state.specs.declared.State.{State}
 use Rattle.state.specs.Association.{decode}
 use Rattle.state.specs.Rules.{state_ok}
@@ -11,6 +12,13 @@ use Rattle.reference.specs.Lists.{choose, if_zero, in_range}
 use Rattle.reference.specs.State as reference
 use Rattle.reference.specs.State.{mutex_at}
 use Rattle.overtaking.specs.Ahead.{waits_for, turns_at, overtakable}
+
+-- the turns of a waiting thread, without and with the mark 'may be overtaken', or that it does not wait, or the number of the refusal
+pub data Ahead : Type 0 where
+  InTurn : ℕ → Ahead
+  Overtakable : ℕ → Ahead
+  NotWaiting : Ahead
+  Refused : ℕ → Ahead
 
 -- an answer in the papers' terms: 0 or the number of the refusal, whether the thread waits, its turns, and the mark 'may be overtaken'
 pub record Answer : Type 0 where
@@ -31,6 +39,15 @@ meaning (Refused n) = record { refusal = n; waiting = false; turns = 0; overtaka
 -- n turns, with the mark or without it
 abbrev pub waiting_for : Bool → ℕ → Ahead
 waiting_for marked n = choose marked (Overtakable n) (InTurn n)
+
+-- the same of the code's answer
+unfoldable pub place_shown : Option Place → Ahead
+place_shown (Some place) = waiting_for place.overtakable place.turns
+place_shown None = NotWaiting
+
+unfoldable pub ahead_shown : Result (Option Place) Refusal → Ahead
+ahead_shown (Ok place) = place_shown place
+ahead_shown (Err refusal) = Refused (number refusal)
 
 -- of a thread that waits for a mutex; any other is not waiting
 unfoldable pub turns_ahead : reference.State → ℕ → Ahead

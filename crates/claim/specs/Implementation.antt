@@ -6,8 +6,7 @@ use Rattle.state.specs.declared.Session.{Session}
 use Rattle.reference.specs.Touch.{Touch, nothing}
 use Rattle.touch.specs.Association.{touch_shown}
 use Rattle.reference.specs.Session.{Opening, table, scripted, Request, move, turn, class, goto}
-use Rattle.picture.specs.declared.answer.Read.{Read}
-use Rattle.picture.specs.Picture.{write_refusal, written, read}
+use Rattle.picture.specs.Picture.{Read, write_refusal, written, read}
 use Rattle.picture.specs.Turns.{Answer as TurnsAhead, meaning, ahead}
 use Rattle.session.specs.Contract.{Answer, MoveAnswer, started, lent_refusal, moved, journal_after, went, front}
 use Rattle.turns.specs.Contract as turns

@@ -182,9 +182,9 @@ module _ (r : Session) (j : List ℕ) (a : Move) where
 -- ---- the journal's front
 
 module _ (r : Session) (j : List ℕ) where
-  pub front-none : (e : Refusal) → number e ≡ lent_refusal r (length j) → [] ≡ front r j
+  pub front_none : (e : Refusal) → number e ≡ lent_refusal r (length j) → [] ≡ front r j
   unfolding front
-  front-none e is = rw (← is, numbered e)
+  front_none e is = rw (← is, numbered e)
 
   pub front_some : lent_refusal r (length j) ≡ 0 → take (3 * r.state.applied) j ≡ front r j
   unfolding front decode

@@ -257,29 +257,29 @@ module _ (r : Session) (size : Sized r.state) (j : List ℕ) (free : lent_refusa
 
   module _ (k : ℕ) where
     -- not all is accepted
-    pub found-none : (a b : ℕ) → Reaches r j a b None → Replays r j k None
+    pub found_none : (a b : ℕ) → Reaches r j a b None → Replays r j k None
     unfolding Reaches Replays matches replays
-    found-none a b e = rw e
+    found_none a b e = rw e
 
     -- the standing moves are the later ones
     module _ (x : Stages) (h : Reaches r j k r.state.applied (Some x)) where
-      pub high-same : true ≡ same.eq-value.it x.high r.state → Replays r j k (Some x.low)
+      pub high_same : true ≡ same.eq-value.it x.high r.state → Replays r j k (Some x.low)
       unfolding Reaches Replays
-      high-same e = (matches-is x.high h.0 h.2 true e, h.1)
+      high_same e = (matches-is x.high h.0 h.2 true e, h.1)
 
-      pub high-other : false ≡ same.eq-value.it x.high r.state → Replays r j k None
+      pub high_other : false ≡ same.eq-value.it x.high r.state → Replays r j k None
       unfolding Reaches Replays
-      high-other e = matches-is x.high h.0 h.2 false e
+      high_other e = matches-is x.high h.0 h.2 false e
 
     -- the standing moves are the earlier ones
     module _ (x : Stages) (h : Reaches r j r.state.applied k (Some x)) where
-      pub low-same : true ≡ same.eq-value.it x.low r.state → Replays r j k (Some x.high)
+      pub low_same : true ≡ same.eq-value.it x.low r.state → Replays r j k (Some x.high)
       unfolding Reaches Replays
-      low-same e = (matches-is x.low h.0 h.1 true e, h.2)
+      low_same e = (matches-is x.low h.0 h.1 true e, h.2)
 
-      pub low-other : false ≡ same.eq-value.it x.low r.state → Replays r j k None
+      pub low_other : false ≡ same.eq-value.it x.low r.state → Replays r j k None
       unfolding Reaches Replays
-      low-other e = matches-is x.low h.0 h.1 false e
+      low_other e = matches-is x.low h.0 h.1 false e
 
 -- the farther step
 pub farther-standing : (r : Session) (k : ℕ) → k ≤ r.state.applied → r.state.applied ≡ farther r k

@@ -46,9 +46,9 @@ module _ (r : Session) (j : List ℕ) where
       by false = refl
 
   -- going to the step before it is refused: the journal's test refuses
-  pub last-refused : (goto_refusal r j n ≡ 0 → ⊥) → touch_record nothing ≡ last_touched r j
+  pub last_refused : (goto_refusal r j n ≡ 0 → ⊥) → touch_record nothing ≡ last_touched r j
   unfolding last_touched goto_refusal
-  last-refused h = by (eqb (test_refusal r j) 0) refl
+  last_refused h = by (eqb (test_refusal r j) 0) refl
     where
       by : (b : Bool) → eqb (test_refusal r j) 0 ≡ b → touch_record nothing ≡ last_touched r j
       by false e = rw e

@@ -34,10 +34,9 @@ module _ (r : Session) (j : List ℕ) where
   counts calls = if_zero (lent_refusal r (length j)) (counted_in r j calls) calls
 
   -- 10 or 15
-  pub test_lent : (e : Refusal) → number e ≡ lent_refusal r (length j) → (calls : List ℕ) → (number e ≡ test_refusal r j) × (calls ≡ counts calls)
+  pub test_lent : (e : Refusal) → number e ≡ lent_refusal r (length j) → number e ≡ test_refusal r j
   unfolding test_refusal
-  test_lent e is calls =
-      (or_first (number e) (lent_refusal r (length j)) _ is (not_none e), sym (if_some (lent_refusal r (length j)) _ calls (λ z. not_none e (is ∙ z))))
+  test_lent e is = or_first (number e) (lent_refusal r (length j)) _ is (not_none e)
 
   -- 16, or none, by what the replay of the standing moves found
   module _ (free : lent_refusal r (length j) ≡ 0) (o : Option Record) (h : Replays r j r.state.applied o) where

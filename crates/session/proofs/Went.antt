@@ -26,26 +26,26 @@ module _ (r : Session) (j : List ℕ) (k : ℕ) where
   unfolding went answer_of
   goto-refused e is = rw (← is, ne_eqb (number e) 0 (not_none e))
 
-  pub goto-lent : (e : Refusal) → number e ≡ lent_refusal r (length j) → answer_of r (Err e) ≡ went r j k
+  pub goto_lent : (e : Refusal) → number e ≡ lent_refusal r (length j) → answer_of r (Err e) ≡ went r j k
   unfolding goto_refusal
-  goto-lent e is = goto-refused e (or_first (number e) (lent_refusal r (length j)) _ is (not_none e))
+  goto_lent e is = goto-refused e (or_first (number e) (lent_refusal r (length j)) _ is (not_none e))
 
   module _ (free : lent_refusal r (length j) ≡ 0) where
-    pub goto-none : r.kept < k → answer_of r (Err NoStep) ≡ went r j k
+    pub goto_none : r.kept < k → answer_of r (Err NoStep) ≡ went r j k
     unfolding goto_refusal number
-    goto-none h = goto-refused NoStep (rw (free, lt-ltb r.kept k h))
+    goto_none h = goto-refused NoStep (rw (free, lt-ltb r.kept k h))
 
     module _ (within : k ≤ r.kept) where
       -- by what the replay found
-      pub goto-mismatch : (o : Option Record) → Replays r j k o → o ≡ None → answer_of r (Err BadJournal) ≡ went r j k
+      pub goto_mismatch : (o : Option Record) → Replays r j k o → o ≡ None → answer_of r (Err BadJournal) ≡ went r j k
       unfolding goto_refusal number Replays
-      goto-mismatch o h e =
+      goto_mismatch o h e =
           let other : matches r j ≡ false = subst (Replays r j k) e h in
           goto-refused BadJournal (rw (free, le-ltb r.kept k within, other))
 
-      pub goto-taken : (o : Option Record) → Replays r j k o → (s : Record) → o ≡ Some s →
+      pub goto_taken : (o : Option Record) → Replays r j k o → (s : Record) → o ≡ Some s →
           answer_of r (Ok (record { state = s; initial = r.initial; kept = r.kept })) ≡ went r j k
       unfolding went goto_refusal answer_of Replays
-      goto-taken o h s e =
+      goto_taken o h s e =
           let same : (matches r j ≡ true) × (s ≡ encode (run (start (config_of r)) (moves k j))) = subst (Replays r j k) e h in
           rw (free, le-ltb r.kept k within, same.0, same.1)

@@ -65,6 +65,7 @@ pub fn lent(session: Session, n: usize) -> Result<(), Refusal>
 
 // The journal's test: whether its standing moves, made from the start table read off the record, give the record, and the kept ones behind them are accepted. Each
 // thread's calls among the standing moves, as far as they are made, are added to its count; a list of one has no thread's count.
+#[tactic(auto, using(crate::proofs::Testing::test_mismatch, crate::proofs::Testing::test_agrees, crate::proofs::Testing::counted_all), unfolding(state::specs::Refusal::outcome, state::specs::Refusal::number))]
 fn test(session: Session, journal: &[u8], calls: &mut [u16]) -> Result<(), Refusal>
     ensures number { outcome result ≡ test_refusal session journal.now }
     ensures calls { calls.new ≡ if_zero (lent_refusal session (length journal.now)) (counted_in session journal.now calls.old) calls.old }
@@ -116,6 +117,7 @@ pub fn make_move(
 
 // Tests a journal: whether its standing moves give the record and the kept ones behind them are accepted; and how many calls each thread has made by the standing
 // ones.
+#[tactic(auto, using(crate::proofs::Testing::tested_refused, crate::proofs::Testing::tested_passed), unfolding(state::specs::Refusal::outcome))]
 pub fn test_journal(session: Session, journal: &[u8]) -> Result<[u16; 33], Refusal>
     ensures { tested_of result ≡ tested session journal.now }
 {
@@ -125,6 +127,7 @@ pub fn test_journal(session: Session, journal: &[u8]) -> Result<[u16; 33], Refus
 }
 
 // Goes to step k: the journal's kept moves are replayed from the start table read off the record, and the state after the first k is given. All stay kept.
+#[tactic(auto, using(crate::proofs::Went::goto_lent, crate::proofs::Went::goto_none, crate::proofs::Went::goto_mismatch, crate::proofs::Went::goto_taken), unfolding(state::specs::Refusal::outcome))]
 pub fn goto(session: Session, journal: &[u8], k: usize) -> Result<Session, Refusal>
     ensures { answer_of session result ≡ went session journal.now k }
 {
@@ -138,6 +141,7 @@ pub fn goto(session: Session, journal: &[u8], k: usize) -> Result<Session, Refus
 }
 
 // The words that the last standing move touched: going to the step before it gives the state before it. Nothing where that is refused or no move stands.
+#[tactic(auto, using(crate::proofs::LastTouch::last_none, crate::proofs::LastTouch::last_some), unfolding(crate::specs::Contract::answer_of, crate::specs::Contract::went))]
 pub fn last_touch(session: Session, journal: &[u8]) -> Touch
     ensures { result ≡ last_touched session journal.now }
 {
@@ -160,6 +164,7 @@ pub fn last_touch(session: Session, journal: &[u8]) -> Touch
 }
 
 // The journal's standing moves: its first 3n bytes where n moves stand.
+#[tactic(auto, using(crate::proofs::Answers::front_some), unfolding(state::specs::Refusal::outcome, crate::specs::Contract::front_of))]
 pub fn front<'a>(session: Session, journal: &'a [u8]) -> Result<&'a [u8], Refusal>
     ensures number { outcome result ≡ lent_refusal session (length journal.now) }
     ensures bytes { front_of result ≡ front session journal.now }

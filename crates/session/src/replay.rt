@@ -8,6 +8,7 @@ use state::{Session, State};
 use step::moves::run;
 
 // The state that the moves of a journal from step a to step b lead to from another, if all are accepted; where there are none, nothing is done.
+#[tactic(auto, using(crate::proofs::Found::part_made, crate::proofs::Found::part_refused))]
 fn part(state: State, journal: &[u8], a: usize, b: usize, calls: &mut [u16]) -> Option<State>
     requires { (a ≤ b) × (3 * b ≤ length journal.now) }
     ensures run { result ≡ all_made (run_of state (between a b journal.now)) }
@@ -54,6 +55,7 @@ fn reached(
 
 // Replays the kept moves, those up to the nearer of k and the standing ones, to the farther, and the others: the state after the first k, if all are accepted and
 // the standing ones give the record. Each thread's calls up to the farther are counted.
+#[tactic(auto, using(crate::proofs::Found::found_none, crate::proofs::Found::high_same, crate::proofs::Found::high_other, crate::proofs::Found::low_same, crate::proofs::Found::low_other))]
 pub(crate) fn replayed(
     session: Session,
     journal: &[u8],

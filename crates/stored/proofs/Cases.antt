@@ -3,11 +3,17 @@
 use Prim.Native.Nat.{ℕ, zero, suc, ◌+◌, ◌*◌, ◌≤◌, ◌<◌}
 use mathlib.Core.Bool.{true, false}
 use mathlib.Core.List.{List}
-use mathlib.Core.Path.{◌≡◌, refl, sym, ap, ◌∙◌}
+use mathlib.Core.Path.{◌≡◌, refl, sym, ap}
 use native.Mathlib.Omega.{arith}
 use lib.Dec.{ltb}
 use lib.ListN.{length, take, length-take}
-use borrow.Author.Tests.{lt-ltb, le-ltb, ne_eqb}
+use borrow.Author.Tests.{lt-ltb, le-ltb}
+use Rattle.std.proofs.Common.{Ok, Err}
+use Rattle.state.specs.declared.refusal.Refusal.{Refusal}
+use Rattle.state.specs.declared.refusal.Refusal.TheVariants.{TooShort}
+use Rattle.state.specs.Refusal.{number}
+use Rattle.state.specs.Record.{zero_session}
+use Rattle.state.proofs.Refused.{numbered, not_none}
 use Rattle.state.specs.declared.Session.{Session}
 use Rattle.state.specs.Association.{decode}
 use Rattle.state.specs.Rules.{session_ok}
@@ -17,42 +23,48 @@ use Rattle.reference.specs.Start.{Config, config_cause}
 use Rattle.reference.specs.Session.{picture_size}
 use Rattle.picture.specs.Picture.{write_refusal, written}
 use Rattle.picture.proofs.Written as writing
-use Rattle.session.specs.declared.Answer.{Answer}
-use Rattle.session.specs.Contract.{started, lent_refusal, front}
+use Rattle.session.specs.Contract.{Answer, answer_of, started, lent_refusal, front}
 use Rattle.session.proofs.Answers.{or_first, lent_passed}
 use Rattle.session.proofs.Found.{kept_range}
 use Rattle.stored.specs.Stored.{session_bytes, session_in}
-use Rattle.stored.specs.Calls.{start_number, start_bytes, picture_number, picture_after, front_number}
+use Rattle.stored.specs.Calls.{start_number, start_bytes, picture_number, picture_after, front_shown, front_number}
+use Rattle.stored.specs.Model.Writable.{Writable}
 use Rattle.stored.proofs.Writing.{state-valid}
+use Rattle.stored.proofs.Valid.{start_left as left}
 
 -- ---- start
 
 module _ (c : Config) (b : List ℕ) where
-  start_left : (n : ℕ) → n ≡ start_number c (length b) → (n ≡ 0 → ⊥) → b ≡ start_bytes c b
+  start_left : (e : Refusal) → number e ≡ start_number c (length b) → (number e ≡ start_number c (length b)) × (b ≡ start_bytes c b)
   unfolding start_bytes
-  start_left n e h = rw (← e, ne_eqb n 0 h)
+  start_left e h = (h, rw (← h, numbered e))
 
-  pub start-refused : (x : Answer) → x ≡ started c → (x.refusal ≡ 0 → ⊥) → (x.refusal ≡ start_number c (length b)) × (b ≡ start_bytes c b)
-  unfolding started
-  start-refused x e h =
-      let n = or_first x.refusal (config_cause c) (refuse (ltb (length b) (picture_size c + 3)) 10 0) (ap (λ (y : Answer). y.refusal) e) h in
-      (n, start_left x.refusal n h)
+  pub start-refused : (e : Refusal) → answer_of zero_session (Err e) ≡ started c → (number e ≡ start_number c (length b)) × (b ≡ start_bytes c b)
+  unfolding answer_of started
+  start-refused e h = start_left e (or_first (number e) (config_cause c) (refuse (ltb (length b) (picture_size c + 3)) 10 0) (ap (λ (x : Answer). x.refusal) h) (not_none e))
 
-  module _ (x : Answer) (e : x ≡ started c) (free : x.refusal ≡ 0) where
+  module _ (s : Session) (h : answer_of zero_session (Ok s) ≡ started c) where
     pub right : config_cause c ≡ 0
-    unfolding started
-    right = sym (ap (λ (y : Answer). y.refusal) e) ∙ free
+    unfolding answer_of started
+    right = sym (ap (λ (x : Answer). x.refusal) h)
+
+    begun : s ≡ (started c).session
+    unfolding answer_of
+    begun = ap (λ (x : Answer). x.session) h
 
     pub start-short : length b < picture_size c + 3 → (10 ≡ start_number c (length b)) × (b ≡ start_bytes c b)
-    start-short h =
-        let n : 10 ≡ start_number c (length b) = rw (right, lt-ltb (length b) (picture_size c + 3) h) in
-        (n, start_left 10 n (λ z. absurd (omega arith)))
+    unfolding number
+    start-short l = start_left TooShort (rw (right, lt-ltb (length b) (picture_size c + 3) l))
 
-    pub start-taken : picture_size c + 3 ≤ length b → (0 ≡ start_number c (length b)) × (with_front b (session_bytes x.session) ≡ start_bytes c b)
-    unfolding start_bytes
-    start-taken h =
-        let n : 0 ≡ start_number c (length b) = rw (right, le-ltb (length b) (picture_size c + 3) h) in
-        (n, rw (← n, e))
+    module _ (l : picture_size c + 3 ≤ length b) where
+      pub start_fits : Writable s b
+      start_fits = rw begun (left c b right l).writable
+
+      pub start-taken : (0 ≡ start_number c (length b)) × (with_front b (session_bytes s) ≡ start_bytes c b)
+      unfolding start_bytes
+      start-taken =
+          let n : 0 ≡ start_number c (length b) = rw (right, le-ltb (length b) (picture_size c + 3) l) in
+          (n, rw (← n, begun))
 
 -- ---- picture
 
@@ -68,24 +80,23 @@ module _ (b buffer : List ℕ) (r : Session) (e : r ≡ session_in b) where
 
 -- ---- the journal's front
 
-module _ (b j : List ℕ) (r : Session) (e : r ≡ session_in b) (n : ℕ) (is : n ≡ lent_refusal r (length j)) where
-  pub front-refused : (n ≡ 0 → ⊥) → 20000 + n ≡ front_number b j
-  unfolding front_number
-  front-refused h = rw (← e, ← is) (by n h)
+module _ (b j : List ℕ) (r : Session) (is : r ≡ session_in b) where
+  pub front-refused : (e : Refusal) → number e ≡ lent_refusal r (length j) → front_shown (Err e) ≡ front_number b j
+  unfolding front_shown front_number
+  front-refused e h = rw (← is, ← h) (by (number e) (not_none e))
     where
       by : (k : ℕ) → (k ≡ 0 → ⊥) → 20000 + k ≡ if_zero k (length (front r j)) (20000 + k)
       by zero z = absurd (z refl)
       by (suc k) z = refl
 
-  module _ (free : n ≡ 0) (part : List ℕ) (f : part ≡ front r j) where
-    pub front-taken : length part ≡ front_number b j
-    unfolding front_number
-    front-taken = rw (← e, ← is, free) (ap length f)
+  module _ (free : 0 ≡ lent_refusal r (length j)) (part : List ℕ) (f : part ≡ front r j) where
+    pub front-taken : front_shown (Ok (length part)) ≡ front_number b j
+    unfolding front_shown front_number
+    front-taken = rw (← is, ← free) (ap length f)
 
     pub front_few : length part ≤ 12000
     unfolding front decode
     front_few =
-        let z : lent_refusal r (length j) ≡ 0 = sym is ∙ free in
-        let k = kept_range r (lent_passed r (length j) z).1 in
-        let is-first : length part ≡ length (take (3 * r.state.applied) j) = rw (f, z) in
+        let k = kept_range r (lent_passed r (length j) (sym free)).1 in
+        let is-first : length part ≡ length (take (3 * r.state.applied) j) = rw (f, ← free) in
         omega (arith, length-take (3 * r.state.applied) j, k.0, k.1)

@@ -7,6 +7,7 @@ use mathlib.Core.Path.{◌≡◌, refl, sym, ap, ◌∙◌}
 use native.Mathlib.Decide.{dec_lt}
 use native.Mathlib.Omega.{arith}
 use lib.Dec.{leb}
+use Rattle.std.proofs.Common.{Ok}
 use lib.ListN.{length, take, drop, length-append, length-take, take-append-drop, get_or-eq_default}
 use lib.Seq.{take_at, length-take-le, get_or-append-add, get_or-take, drop-cons}
 use borrow.Author.Tests.{le-leb, leb-true, eqb-true}
@@ -17,7 +18,7 @@ use Rattle.state.specs.Rules.{broken_rule, fields_ok, state_ok, session_ok}
 use Rattle.reference.specs.Lists.{with_front}
 use Rattle.reference.specs.Picture.{picture, two}
 use Rattle.reference.proofs.Tests.{both_left, both_right}
-use Rattle.picture.specs.Picture.{Bytes, byte, two_at, picture_length, read, read_refusal}
+use Rattle.picture.specs.Picture.{Bytes, byte, two_at, picture_length, read_shown, read, read_refusal}
 use Rattle.picture.proofs.Records.{record_picture}
 use Rattle.picture.proofs.ReadBack.{parts}
 use Rattle.picture.proofs.Written.{picture_size}
@@ -56,14 +57,14 @@ module _ (r : Session) (z : Sized r.state) (e : session_ok r ≡ true) (rest : L
   behind i = ap (λ (k : ℕ). byte w (k + i)) (sym long) ∙ get_or-append-add x (l ++ rest) i 0
 
   pub reads_back : session_in (session_bytes r ++ rest) ≡ r
-  unfolding session_bytes
+  unfolding session_bytes read_shown
   reads_back =
       let room : n + 3 ≤ length w = omega (arith, length-append x (l ++ rest), long) in
-      let found : _ ≡ read (take n w) = sym (picture-reads r.state z ok) ∙ ap read (sym (take_at x (l ++ rest) n long)) in
+      let found : read_shown (Ok r.state) ≡ read (take n w) = sym (picture-reads r.state z ok) ∙ ap read (sym (take_at x (l ++ rest) n long)) in
       let at : n + 0 ≡ n = omega arith in
       let initial : byte w n ≡ r.initial = ap (byte w) (sym at) ∙ behind 0 in
       let kept : 256 * byte w (n + 1) + byte w (n + 2) ≡ r.kept = (λ i. 256 * behind 1 i + behind 2 i) ∙ omega arith in
-      ap session_in (append_assoc x l rest) ∙ sym (in_read w n ends room (record { refusal = 0; state = r.state }) found refl) ∙
+      ap session_in (append_assoc x l rest) ∙ sym (in_read w n ends room r.state found) ∙
       (λ i. record { state = r.state; initial = initial i; kept = kept i })
 
 -- ---- bytes that are a session

@@ -1,11 +1,12 @@
 -- What is written at the front of bytes: what the code's stores make, and that it reads back.
 -- Assumes nothing.
-use Prim.Native.Nat.{ℕ, suc, ◌+◌, ◌/◌, ◌%◌, ◌≤◌}
+use Prim.Native.Nat.{ℕ, suc, ◌+◌, ◌/◌, ◌%◌, ◌≤◌, ◌<◌}
 use mathlib.Core.Bool.{true}
 use mathlib.Core.List.{List, ◌∷◌, ◌++◌}
 use mathlib.Core.Path.{◌≡◌, sym, ap, ◌∙◌}
 use native.Mathlib.Omega.{arith}
-use lib.ListN.{length, set, drop, length-append, length-drop}
+use Rattle.std.specs.Int.{w16, to_be_bytes}
+use lib.ListN.{length, get_or, set, drop, length-append, length-drop}
 use lib.Seq.{sets-eq, take_at, drop_at, drop-drop}
 use borrow.Author.Tests.{le-ltb}
 use Rattle.state.specs.declared.Session.{Session}
@@ -29,6 +30,13 @@ state-valid r e = both_left (state_ok r.state) (in_range 1 r.state.t r.initial) 
 pub bytes-long : (r : Session) → length (session_bytes r) ≡ picture_length r.state + 3
 unfolding session_bytes
 bytes-long r = length-append (picture (decode r.state)) _ ∙ omega (arith, picture_size r.state)
+
+-- the two bytes of a number
+pub high_byte : (n : ℕ) → n < 65536 → get_or (to_be_bytes w16 n) 0 0 ≡ n / 256
+high_byte n h = omega arith
+
+pub low_byte : (n : ℕ) → get_or (to_be_bytes w16 n) 1 0 ≡ n % 256
+low_byte n = omega arith
 
 -- three stores behind the picture
 module _ (r : Session) (b : List ℕ) (z : Sized r.state) (h : Writable r b) where

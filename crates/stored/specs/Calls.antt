@@ -1,6 +1,8 @@
 -- What the calls on a session's bytes answer, on all inputs: what the entry points answer of the session at their front. `b` is the bytes, `j` the journal lent.
 -- Assumes nothing.
-use Rattle.std.specs.Prelude.{ℕ, ◌+◌, not, List, ltb, length}
+use Rattle.std.specs.Prelude.{ℕ, ◌+◌, not, List, ltb, length, Result, Ok, Err}
+use Rattle.state.specs.declared.refusal.Refusal.{Refusal}
+use Rattle.state.specs.Refusal.{number}
 use Rattle.state.specs.Association.{decode}
 use Rattle.state.specs.Rules.{session_ok}
 use Rattle.reference.specs.Refusal.{too_short, bad_record, refuse}
@@ -47,3 +49,8 @@ unfoldable pub front_number : List ℕ → List ℕ → ℕ
 front_number b j =
     let refusal : ℕ = lent_refusal (session_in b) (length j) in
     if_zero refusal (length (front (session_in b) j)) (20000 + refusal)
+
+-- what the code's answer means
+unfoldable pub front_shown : Result ℕ Refusal → ℕ
+front_shown (Ok n) = n
+front_shown (Err refusal) = 20000 + number refusal

@@ -12,7 +12,13 @@ use state::refusal::Refusal;
 use touch::Touch;
 
 // Moves processor p, as session::make_move does, in the record that is lent: the words that it touched.
-pub fn make_move(session: &mut Session, journal: &mut [u8], p: u8, a: u8, o: u8) -> Result<Touch, Refusal>
+pub fn make_move(
+    session: &mut Session,
+    journal: &mut [u8],
+    p: u8,
+    a: u8,
+    o: u8,
+) -> Result<Touch, Refusal>
     ensures answer { made_shown result ≡ made_of (moved session.old journal.old (move_of p a o)) }
     ensures session { session.new ≡ (moved session.old journal.old (move_of p a o)).session }
     ensures written { journal.new ≡ journal_after session.old journal.old (move_of p a o) }

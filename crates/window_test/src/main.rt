@@ -37,7 +37,11 @@ fn digit(b: u8) -> u8 {
 
 fn call(session: &mut Session, journal: &mut [u8], p: u8, a: u8, o: u8) {
     if p == b'g' {
-        print_goto(session, journal, 10 * (digit(a) as usize) + (digit(o) as usize));
+        print_goto(
+            session,
+            journal,
+            10 * (digit(a) as usize) + (digit(o) as usize),
+        );
     } else {
         print_move(session, journal, digit(p), digit(a), digit(o));
     }

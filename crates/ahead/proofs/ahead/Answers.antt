@@ -1,36 +1,33 @@
 -- `ahead::ahead` meets its contract.
 -- Assumes nothing.
-use mathlib.Core.Bool.{true, false}
+use Prim.Native.Nat.{ℕ}
+use mathlib.Core.Bool.{true}
+use mathlib.Core.Path.{◌≡◌, ap, sym, ◌∙◌}
 use Rattle.reference.specs.Lists.{in_range}
-use mathlib.Core.Path.{◌≡◌, sym, ◌∙◌}
-use borrow.Author.Tests.{not-true, not-false}
 use Rattle.reference.proofs.Tests.{range_true}
+use Rattle.state.specs.declared.State.{State}
+use Rattle.state.specs.Record.{Sized}
+use Rattle.state.specs.Rules.{state_ok}
 use Rattle.state.proofs.Sized.{sized}
-use Rattle.ahead.specs.Turns.{ahead}
-use Rattle.ahead.proofs.Formula.{chain_formula, both_ways}
+use Rattle.ahead.specs.Turns.{Ahead, ahead_shown, ahead, meaning}
+use Rattle.ahead.specs.Model.Waiting.{chain_answer}
+use Rattle.ahead.proofs.Formula.{chain_formula, meaning-ahead}
 use Rattle.ahead.proofs.ahead.Goals as goal
 
-pub returns-then-not-ok : goal.returns-then-not-ok
+-- of a thread that is there, by its own record
+there : (r : State) → Sized r → (k : ℕ) → (a : Ahead) → a ≡ chain_answer r k → state_ok r ≡ true → in_range 1 r.t k ≡ true → a ≡ ahead r k
 unfolding ahead
-returns-then-not-ok c =
-    let e = sym c.state_ok-ok.ensures ∙ not-true _ c.if-not-ok.true-raw in
-    both_ways _ c.args.s c.args.thread (sym (rw e))
+there r z k a e ok h = e ∙ chain_formula r z ok k (range_true 1 r.t k h) ∙ sym (rw (ok, h))
 
-pub returns-then-not-there : goal.returns-then-not-there
-unfolding ahead
-returns-then-not-there c =
-    let i = c in
-    let e = sym i.state_ok-ok.ensures ∙ not-false _ i.if-not-ok.false-raw in
-    let s = i in
-    let g : in_range 1 s.args.s.t s.args.thread ≡ false = not-true _ c.if-not-there.true-raw in
-    both_ways _ s.args.s s.args.thread (sym (rw (e, g)))
+pub returns-clause-shown : goal.returns-clause-shown
+unfolding ahead_shown
+returns-clause-shown c =
+    let a = c.args in
+    there a.s (sized c.well_formed.0) a.thread _ c.turns_ahead.ensures (sym c.state_ok.ensures ∙ c.if-not-state_ok.false) (sym c.in_range.ensures ∙ c.if-not-in_range.false)
 
-pub returns : goal.returns
-unfolding ahead
-returns c =
-    let i = c in
-    let s = i in
-    let e = sym i.state_ok-ok.ensures ∙ not-false _ i.if-not-ok.false-raw in
-    let g : in_range 1 s.args.s.t s.args.thread ≡ true = not-false _ c.if-not-there.false-raw in
-    both_ways _ s.args.s s.args.thread
-    (c.turns_ahead.ensures ∙ chain_formula s.args.s (sized s.well_formed.0) e s.args.thread (range_true 1 s.args.s.t s.args.thread g) ∙ sym (rw (e, g)))
+pub returns-clause-means : goal.returns-clause-means
+unfolding ahead_shown
+returns-clause-means c =
+    let a = c.args in
+    ap meaning (there a.s (sized c.well_formed.0) a.thread _ c.turns_ahead.ensures (sym c.state_ok.ensures ∙ c.if-not-state_ok.false) (sym c.in_range.ensures ∙ c.if-not-in_range.false)) ∙
+    meaning-ahead a.s a.thread

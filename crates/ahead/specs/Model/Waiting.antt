@@ -1,14 +1,12 @@
 -- Turns ahead and the mark by a thread's own record and the chain of its mutex.
 -- Assumes nothing.
 use Rattle.std.specs.Prelude.{ℕ, ◌+◌, Bool, ◌&&◌, ◌||◌, not, eqb, ltb}
-use Rattle.ahead.specs.declared.answer.Ahead.{Ahead}
-use Rattle.ahead.specs.declared.answer.Ahead.TheVariants.{NotWaiting}
 use Rattle.state.specs.declared.Processor.{Processor}
 use Rattle.state.specs.declared.State.{State}
 use Rattle.state.specs.Record.{thread_of, processor_of, mutex_of, first_of, chain}
 use Rattle.reference.specs.Lists.{choose, if_zero, each}
 use Rattle.overtaking.specs.Ahead.{before}
-use Rattle.ahead.specs.Turns.{waiting_for}
+use Rattle.ahead.specs.Turns.{Ahead, NotWaiting, waiting_for}
 
 -- those before k in the chain of mutex m, and its owner
 unfoldable pub chain_turns : State → ℕ → ℕ → ℕ

@@ -1,28 +1,36 @@
 -- `stored::turn` meets its contract.
 -- Assumes nothing.
 use mathlib.Core.Path.{ap, ◌∙◌}
+use Rattle.std.proofs.lemmas.Result.{err_from_is_err_and}
 use Rattle.state.specs.declared.Session.{Session}
+use Rattle.state.specs.Refusal.{outcome}
+use Rattle.session.specs.Contract.{MoveAnswer, move_answer_of}
 use Rattle.turns.specs.Contract.{turned, turn_journal}
 use Rattle.stored.specs.Calls.{turn_bytes}
 use Rattle.stored.proofs.Valid.{turn-left}
-use Rattle.stored.proofs.Answered.{same_move}
+use Rattle.stored.proofs.Answered.{stays, fits, wrote}
 use Rattle.stored.proofs.turn.Goals as goal
 
-pub store-requires : goal.store-requires
-store-requires c =
-    let m = c in
-    let r = m in
-    let x = r.args in
-    (same_move x.session.now r.read-record.result r.read-record.ensures (λ (s : Session). turned s x.journal.now x.scripts.now x.p)
-    (turn-left x.session.now x.journal.now x.scripts.now x.p) m.turn-answer.result m.turn-answer.ensures.answer).writable
+pub returns-in_err-made : goal.returns-in_err-made
+unfolding outcome move_answer_of turn_bytes
+returns-in_err-made c =
+    let t = err_from_is_err_and c.from_residual.result c.from_residual.ensures.1 in
+    let a = c.args in
+    let k = c.in_err-made.ensures.answer ∙ ap (λ (s : Session). turned s a.journal.now a.scripts.now a.p) c.read.ensures in
+    let n = ap (λ (x : MoveAnswer). x.refusal) k in
+    record { number = rw (t.1, t.2) n; session = stays _ _ _ c.in_err-made.field-0.0 n; journal = c.in_err-made.ensures.written ∙ ap (λ (s : Session). turn_journal s a.journal.now a.scripts.now a.p) c.read.ensures }
+
+pub write-requires : goal.write-requires
+unfolding move_answer_of
+write-requires c =
+    let a = c.args in
+    let k = c.in_ok-made.ensures.answer ∙ ap (λ (s : Session). turned s a.journal.now a.scripts.now a.p) c.read.ensures in
+    fits _ _ _ _ (ap (λ (x : MoveAnswer). x.refusal) k) (ap (λ (x : MoveAnswer). x.session) k) (turn-left a.session.now a.journal.now a.scripts.now a.p)
 
 pub returns : goal.returns
-unfolding turn_bytes
+unfolding outcome move_answer_of turn_bytes
 returns c =
-    let s = c in
-    let m = s in
-    let r = m in
-    let x = r.args in
-    let t = same_move x.session.now r.read-record.result r.read-record.ensures (λ (s : Session). turned s x.journal.now x.scripts.now x.p)
-    (turn-left x.session.now x.journal.now x.scripts.now x.p) m.turn-answer.result m.turn-answer.ensures.answer in
-    (record { number = t.number_is; session = s.store.ensures ∙ t.bytes_are; journal = m.turn-answer.ensures.written ∙ ap (λ (s : Session). turn_journal s x.journal.now x.scripts.now x.p) r.read-record.ensures })
+    let a = c.args in
+    let k = c.in_ok-made.ensures.answer ∙ ap (λ (s : Session). turned s a.journal.now a.scripts.now a.p) c.read.ensures in
+    let n = ap (λ (x : MoveAnswer). x.refusal) k in
+    record { number = n; session = c.write.ensures ∙ wrote _ _ _ _ n (ap (λ (x : MoveAnswer). x.session) k); journal = c.in_ok-made.ensures.written ∙ ap (λ (s : Session). turn_journal s a.journal.now a.scripts.now a.p) c.read.ensures }

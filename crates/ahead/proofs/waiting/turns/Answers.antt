@@ -7,20 +7,13 @@ use Rattle.ahead.proofs.waiting.turns.Goals as goal
 
 pub returns-then-mutex-eq0 : goal.returns-then-mutex-eq0
 returns-then-mutex-eq0 c =
-    let n = c in
-    let s = n in
-    turns_free s.args.s s.args.m s.args.thread n.first_at.result n.before-n.result c.mutex_at-mutex.result
-    n.first_at.ensures n.before-n.ensures c.mutex_at-mutex.ensures c.if-mutex-eq0.true
+    let a = c.args in
+    turns_free a.s.now a.m a.thread c.at.result c.before-n.result c.at-mutex.result c.at.ensures c.before-n.ensures c.at-mutex.ensures c.if-mutex-eq0.true
 
 pub overflow_add-result : goal.overflow_add-result
-overflow_add-result c =
-    let n = c in
-    let s = n in
-    omega (arith, n.before-n.ensures, walk_most (thread_of s.args.s) s.args.thread 32 n.first_at.result)
+overflow_add-result c = let a = c.args in omega (arith, c.before-n.ensures, walk_most (thread_of a.s.now) a.thread 32 c.at.result)
 
 pub returns : goal.returns
 returns c =
-    let n = c in
-    let s = n in
-    turns-owned s.args.s s.args.m s.args.thread n.first_at.result n.before-n.result c.mutex_at-mutex.result
-    n.first_at.ensures n.before-n.ensures c.mutex_at-mutex.ensures c.if-mutex-eq0.false
+    let a = c.args in
+    turns-owned a.s.now a.m a.thread c.at.result c.before-n.result c.at-mutex.result c.at.ensures c.before-n.ensures c.at-mutex.ensures c.if-mutex-eq0.false

@@ -1,16 +1,14 @@
 -- `stored::bytes::write` meets its contract.
 -- Assumes nothing.
 use Rattle.state.proofs.Sized.{session_sized}
-use Rattle.stored.proofs.Writing.{all-written}
+use native.Mathlib.Omega.{arith}
+use Rattle.session.proofs.Found.{kept_range}
+use Rattle.stored.proofs.Writing.{high_byte, low_byte, all-written}
 use Rattle.stored.proofs.bytes.write.Goals as goal
 
 pub returns : goal.returns
 returns c =
-    let p4 = c in
-    let p3 = p4 in
-    let p2 = p3 in
-    let p1 = p2 in
-    let l = p1 in
-    let start = l in
-    rw (p4.put-3.ensures, p3.put-2.ensures, p2.put.ensures, p1.put-fits.ensures.1)
-    (all-written start.args.session start.args.bytes.now (session_sized start.well_formed.1.0) start.requires l.picture_bytes-end.result l.picture_bytes-end.ensures)
+    let a = c.args in
+    let high = high_byte a.session.kept (omega (arith, (kept_range a.session c.requires.valid).1)) in
+    rw (c.put-3.ensures, c.put-2.ensures, c.put.ensures, c.put-fits.ensures.bytes, c.to_be_bytes.ensures, high, low_byte)
+    (all-written a.session a.bytes.now (session_sized c.well_formed.1.0) c.requires c.picture_bytes-end.result c.picture_bytes-end.ensures)
