@@ -10,7 +10,7 @@ use lib.ListN.{length, take, drop, length-append, length-take}
 use Rattle.command.specs.Command.{field}
 use Rattle.command.specs.Printing.{text, decimal, wide, padded, line_feed}
 use Rattle.command.proofs.Lines.{decimal-length, wide-length, field-length}
-use Rattle.command.proofs.Put.{spaces-length}
+use Rattle.std.proofs.lemmas.List.{length-replicate}
 use Rattle.view.specs.Words.{trimmed, word_at, line_name, action_word, or_dash, token_text, rows}
 use Rattle.state.specs.declared.Thread.{Thread}
 use Rattle.state.specs.declared.Token.{Token}
@@ -70,7 +70,7 @@ token_text-length t = zero_or t.processor (text "-") _ 12 (λ e. omega arith) (s
 
 padded-length : (width n : ℕ) (x : List ℕ) → width ≤ n → length x ≤ n → length (padded width x) ≤ n
 unfolding padded
-padded-length width n x h k = rw (length-append, spaces-length) (omega arith)
+padded-length width n x h k = rw (length-append, length-replicate) (omega arith)
 
 ended : (x : List ℕ) (n : ℕ) → length x ≤ n → length (x ++ line_feed) ≤ n + 1
 ended x n h = rw length-append (omega arith)
@@ -108,7 +108,7 @@ module _ (count : ℕ) (few : count ≤ 8) where
     made-length : length (made count r a s) ≤ 94
     unfolding made
     made-length =
-        simp (length-append, spaces-length) (omega (arith, padded-length 6 6 (wide s.applied) (omega arith) (wide-length s.applied), before-length a.processor, deed-length r a))
+        simp (length-append, length-replicate) (omega (arith, padded-length 6 6 (wide s.applied) (omega arith) (wide-length s.applied), before-length a.processor, deed-length r a))
 
     owner-length : length (with_owner r a s count) ≤ 110
     unfolding with_owner owner_change text

@@ -1,3 +1,3 @@
 -- Models of the code, which only inner contracts cite: nobody needs to believe them.
-pub mod Note
+pub mod Row
 pub mod Made

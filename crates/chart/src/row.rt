@@ -1,114 +1,63 @@
-// A row of the chart: a move, with the states before it, r, and after it, s.
-ghost use Rattle.std.specs.Prelude.{◌≡◌, not, ◌-◌, ◌*◌, eqb};
-ghost use Rattle.command.specs.Printing.{buffer_of, add};
-ghost use Rattle.state.specs.Record.{thread_of, mutex_of};
+// A row of the chart: a move, the line or the call that it made and what it changed.
+ghost use Rattle.std.specs.Prelude.{◌≡◌, ◌+◌, ◌-◌, ◌*◌, true, false};
+ghost use Rattle.std.specs.Fn.{FnOnceReturnsAtMut};
+ghost use Rattle.command.specs.Printing.{spaces, written};
 ghost use Rattle.reference.specs.Lists.{choose, in_range};
-ghost use Rattle.reference.specs.Step.{move_of};
-ghost use Rattle.chart.specs.Chart.{deed, made, owner_change, token_change, same_token, queued, queue_name, queue_change, row};
-ghost use Rattle.chart.specs.Model.Note.{note};
+ghost use Rattle.chart.specs.Chart.{deed, made, owner_change, token_change, queued, queue_name, queue_change, row};
+ghost use Rattle.chart.specs.Model.Row.{move_in};
 
-use command::printing::{pad, put, put_number, put_spaces, put_wide};
-use state::access::mutex_at;
-use state::chain::thread_at;
+use command::printing::Page;
+use state::access::at;
 use state::range::in_range;
-use state::{Mutex, State, Thread, Token};
+use state::{Mutex, State, Thread};
 use view::words::{put_action, put_field, put_line_name, put_or_dash, put_token};
 
-fn mutex_of(r: State, m: u8) -> Mutex
-    ensures { result ≡ mutex_of r m }
-{
-    let mutexes = r.mutexes;
-    mutex_at(mutexes, m)
+// A move, with the states before and after it, in a chart of so many columns.
+#[derive(Clone, Copy)]
+pub(crate) struct Row {
+    pub count: u8,
+    pub before: State,
+    pub p: u8,
+    pub a: u8,
+    pub o: u8,
+    pub after: State,
 }
 
-fn thread_of(r: State, k: u8) -> Thread
-    ensures { result ≡ thread_of r k }
+// The changes: the owner and the token of mutex m, which is y now, and a thread that joined a queue or left it.
+
+#[tactic(auto, using(command::proofs::Put::page_steps), unfolding(command::specs::Printing::text, crate::specs::Chart::owner_change))]
+fn owner(page: &mut Page, m: u8, y: Mutex)
+    ensures { page.new ≡ written page.old (owner_change m y) }
 {
-    let chains = r.chains;
-    let threads = chains.threads;
-    thread_at(threads, k)
+    page.put(b"  owner ");
+    page.number(m);
+    page.put(b": ");
+    put_or_dash(page, y.owner);
 }
 
-// The line that a go executes, or the call with its operand.
-fn put_deed(out: &mut [u8], at: usize, r: State, p: u8, a: u8, o: u8) -> usize
-    ensures { buffer_of out.new result ≡ add (buffer_of out.old at) (deed r (move_of p a o)) }
+#[tactic(auto, using(command::proofs::Put::page_steps), unfolding(command::specs::Printing::text, crate::specs::Chart::token_change))]
+fn token(page: &mut Page, m: u8, y: Mutex)
+    ensures { page.new ≡ written page.old (token_change m y) }
 {
-    if a == 0 {
-        let processor = r.processor(p);
-        return put_line_name(out, at, processor.position);
-    }
-    let n = put_action(out, at, a);
-    if o == 0 {
-        return n;
-    }
-    put_field(out, n, o)
+    page.put(b"  token ");
+    page.number(m);
+    page.put(b": ");
+    put_token(page, y.token);
 }
 
-// The width of the columns before that of processor p.
-fn columns_before(count: u8, p: u8) -> usize
-    ensures { result ≡ choose (in_range 1 count p) (11 * (p - 1)) 0 }
-{
-    let there = in_range(1, count, p);
-    if there { 11 * ((p - 1) as usize) } else { 0 }
-}
-
-// The row up to its changes.
-fn put_made(out: &mut [u8], at: usize, count: u8, r: State, p: u8, a: u8, o: u8, s: State) -> usize
-    ensures { buffer_of out.new result ≡ add (buffer_of out.old at) (made count r (move_of p a o) s) }
-{
-    let n = put_wide(out, at, s.applied);
-    let n = pad(out, n, at, 6);
-    let n = put_spaces(out, n, columns_before(count, p));
-    put_deed(out, n, r, p, a, o)
-}
-
-// The changes, each put behind a row that began at `from`.
-
-fn note_owner(out: &mut [u8], at: usize, from: usize, count: u8, m: u8, x: Mutex, y: Mutex) -> usize
-    ensures { buffer_of out.new result ≡ add (buffer_of out.old at) (note (not (eqb x.owner y.owner)) count (at - from) (owner_change m y)) }
-{
-    if x.owner == y.owner {
-        return at;
-    }
-    let n = pad(out, at, from, 4 + 11 * (count as usize));
-    let n = put(out, n, b"  owner ");
-    let n = put_number(out, n, m);
-    let n = put(out, n, b": ");
-    put_or_dash(out, n, y.owner)
-}
-
-fn same_token(t: Token, u: Token) -> bool
-    ensures { result ≡ same_token t u }
-{
-    (t.processor == u.processor) & (t.sequence == u.sequence)
-}
-
-fn note_token(out: &mut [u8], at: usize, from: usize, count: u8, m: u8, x: Mutex, y: Mutex) -> usize
-    ensures { buffer_of out.new result ≡ add (buffer_of out.old at) (note (not (same_token x.token y.token)) count (at - from) (token_change m y)) }
-{
-    let same = same_token(x.token, y.token);
-    if same {
-        return at;
-    }
-    let n = pad(out, at, from, 4 + 11 * (count as usize));
-    let n = put(out, n, b"  token ");
-    let n = put_number(out, n, m);
-    let n = put(out, n, b": ");
-    put_token(out, n, y.token)
-}
-
-fn put_queue_name(out: &mut [u8], at: usize, t: Thread) -> usize
-    ensures { buffer_of out.new result ≡ add (buffer_of out.old at) (queue_name t) }
+#[tactic(auto, using(command::proofs::Put::page_steps, crate::proofs::Rows::queue_names), unfolding(command::specs::Printing::text))]
+fn queue_name(page: &mut Page, t: Thread)
+    ensures { page.new ≡ written page.old (queue_name t) }
 {
     if t.status == 2 {
-        let n = put(out, at, b"  queue");
-        return put_field(out, n, t.holder);
+        page.put(b"  queue");
+        put_field(page, t.holder);
+    } else {
+        page.put(b"  ready");
+        if t.holder != 0 {
+            put_field(page, t.holder);
+        }
     }
-    let n = put(out, at, b"  ready");
-    if t.holder == 0 {
-        return n;
-    }
-    put_field(out, n, t.holder)
 }
 
 fn queued(t: Thread) -> bool
@@ -117,50 +66,90 @@ fn queued(t: Thread) -> bool
     (t.status == 1) | (t.status == 2)
 }
 
-fn note_queue(
-    out: &mut [u8],
-    at: usize,
-    from: usize,
-    count: u8,
-    sign: &[u8],
-    t: Thread,
-    k: u8,
-) -> usize
-    ensures { buffer_of out.new result ≡ add (buffer_of out.old at) (note (queued t) count (at - from) (queue_change sign.now t k)) }
+#[tactic(auto, using(command::proofs::Put::page_steps), unfolding(crate::specs::Chart::queue_change))]
+fn queue(page: &mut Page, sign: &[u8], t: Thread, k: u8)
+    ensures { page.new ≡ written page.old (queue_change sign.now t k) }
 {
-    let there = queued(t);
-    if there {
-        let n = pad(out, at, from, 4 + 11 * (count as usize));
-        let n = put_queue_name(out, n, t);
-        let n = put(out, n, sign);
-        return put_number(out, n, k);
-    }
-    at
+    queue_name(page, t);
+    page.put(sign);
+    page.number(k);
 }
 
-pub(crate) fn put_row(
-    out: &mut [u8],
-    at: usize,
-    count: u8,
-    r: State,
-    p: u8,
-    a: u8,
-    o: u8,
-    s: State,
-) -> usize
-    ensures { buffer_of out.new result ≡ add (buffer_of out.old at) (row r (move_of p a o) s count) }
-{
-    let before = r.processor(p);
-    let after = s.processor(p);
-    let m = before.mutex;
-    let x = mutex_of(r, m);
-    let y = mutex_of(s, m);
-    let joined = thread_of(s, before.transit);
-    let left = thread_of(r, after.transit);
-    let n = put_made(out, at, count, r, p, a, o, s);
-    let n = note_owner(out, n, at, count, m, x, y);
-    let n = note_token(out, n, at, count, m, x, y);
-    let n = note_queue(out, n, at, count, b": +", joined, before.transit);
-    let n = note_queue(out, n, at, count, b": -", left, after.transit);
-    put(out, n, b"\n")
+impl Row {
+    // The line that a go executes, or the call with its operand.
+    #[tactic(auto, using(command::proofs::Put::page_steps, crate::proofs::Rows::deeds))]
+    fn deed(&self, page: &mut Page)
+        ensures { page.new ≡ written page.old (deed self.now.before (move_in self.now)) }
+    {
+        if self.a == 0 {
+            put_line_name(page, self.before.processor(self.p).position);
+        } else {
+            put_action(page, self.a);
+            if self.o != 0 {
+                put_field(page, self.o);
+            }
+        }
+    }
+
+    // The width of the columns before the mover's.
+    fn columns_before(&self) -> usize
+        ensures { result ≡ choose (in_range 1 self.now.count self.now.p) (11 * (self.now.p - 1)) 0 }
+    {
+        if in_range(1, self.count, self.p) {
+            11 * (self.p as usize).saturating_sub(1)
+        } else {
+            0
+        }
+    }
+
+    // The row up to its changes.
+    #[tactic(auto, using(command::proofs::Put::page_steps), unfolding(crate::specs::Chart::made))]
+    fn made(&self, page: &mut Page)
+        ensures { page.new ≡ written page.old (made self.now.count self.now.before (move_in self.now) self.now.after) }
+    {
+        page.column(6, |page| page.wide(self.after.applied));
+        page.spaces(self.columns_before());
+        self.deed(page);
+    }
+
+    // A change, where there is one, behind the row that began at `from`.
+    fn note<F: FnOnce(&mut Page)>(&self, page: &mut Page, from: usize, there: bool, change: F)
+        requires { F.IsAlwaysCallable change }
+        ensures none { there ≡ false → page.new ≡ page.old }
+        ensures change { there ≡ true → FnOnceReturnsAtMut F.FnOnce change (written page.old (spaces (4 + 11 * self.now.count - (page.old.len - from)))) tt page.new }
+    {
+        if there {
+            page.pad(from, 4 + 11 * (self.count as usize));
+            change(page);
+        }
+    }
+
+    pub(crate) fn put(&self, page: &mut Page)
+        ensures { page.new ≡ written page.old (row self.now.before (move_in self.now) self.now.after self.now.count) }
+    {
+        let from = page.len;
+        let before = self.before.processor(self.p);
+        let after = self.after.processor(self.p);
+        let m = before.mutex;
+        let x = at(&self.before.mutexes, m as usize);
+        let y = at(&self.after.mutexes, m as usize);
+        let joined = at(&self.after.chains.threads, before.transit as usize);
+        let left = at(&self.before.chains.threads, after.transit as usize);
+        self.made(page);
+        self.note(page, from, x.owner != y.owner, |page| owner(page, m, y));
+        self.note(page, from, x.token != y.token, |page| token(page, m, y));
+        self.note(
+            page,
+            from,
+            queued(joined),
+            |page| queue(page, b": +", joined, before.transit),
+        );
+        self.note(
+            page,
+            from,
+            queued(left),
+            |page| queue(page, b": -", left, after.transit),
+        );
+        page.push(b'\n');
+    }
 }

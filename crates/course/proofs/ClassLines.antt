@@ -8,8 +8,9 @@ use mathlib.Core.Path.{◌≡◌, refl, sym, ap, subst, ◌∙◌}
 use mathlib.Core.List.{List, [], ◌∷◌, ◌++◌, append_assoc}
 use lib.ListN.{length, get_or, take, drop, drop_of_length-le}
 use lib.Seq.{take_at, drop_at, drop-drop, drop-cons}
-use Rattle.command.specs.Printing.{decimal, hex, line_feed, Buffer, add}
-use Rattle.command.proofs.Put.{add-add, add_none, then}
+use Rattle.command.specs.declared.printing.Page.{Page}
+use Rattle.command.specs.Printing.{decimal, hex, line_feed, written}
+use Rattle.command.proofs.Put.{written_twice, written_none}
 use Rattle.state.specs.declared.Session.{Session}
 use Rattle.state.specs.Record.{Sized}
 use Rattle.state.proofs.Branch.{if_none, if_some}
@@ -38,23 +39,21 @@ fits i n size h =
     let e = suc-mul i size in
     omega arith
 
-pub more : (i size : ℕ) → i * size + size ≡ (i + 1) * size
-more i size = rw (add-one, suc-mul i size)
-
 -- one turn more
-pub next-lines : (p q r : Buffer) (size i from : ℕ) (answers pictures : List ℕ) → i < length answers
-    → q ≡ add p (decimal (get_or answers i 0) ++ line_feed) → r ≡ add q (hex (take (from + size - from) (drop from pictures)) ++ line_feed)
-    → add r (turn_lines size (drop (i + 1) answers) (drop (from + size) pictures)) ≡ add p (turn_lines size (drop i answers) (drop from pictures))
+pub next_lines : (p : Page) (size i : ℕ) (answers pictures : List ℕ) → i < length answers
+    → written (written (written p (decimal (get_or answers i 0) ++ line_feed)) (hex (take (i * size + size - i * size) (drop (i * size) pictures)) ++ line_feed))
+        (turn_lines size (drop (i + 1) answers) (drop ((i + 1) * size) pictures))
+      ≡ written p (turn_lines size (drop i answers) (drop (i * size) pictures))
 unfolding turn_lines
-next-lines p q r size i from answers pictures h e f =
-    let t = then p q r _ _ e f in
-    let n : from + size - from ≡ size = omega arith in
-    rw (t, add-add, n, add-one, drop-cons answers i 0 h, drop-drop size from pictures)
+next_lines p size i answers pictures h =
+    let n : i * size + size - i * size ≡ size = omega arith in
+    let m : (i + 1) * size ≡ i * size + size = rw (add-one, suc-mul i size) in
+    rw (written_twice, written_twice, n, m, add-one, drop-cons answers i 0 h, drop-drop size (i * size) pictures)
 
 -- the last turn
-pub no_lines : (p q : Buffer) (size i : ℕ) (answers pictures : List ℕ) → length answers ≤ i → add p (turn_lines size (drop i answers) pictures) ≡ q → p ≡ q
+pub no_lines : (p q : Page) (size i : ℕ) (answers pictures : List ℕ) → length answers ≤ i → written p (turn_lines size (drop i answers) pictures) ≡ q → p ≡ q
 unfolding turn_lines
-no_lines p q size i answers pictures h e = sym (add_none p) ∙ (rw (drop_of_length-le answers h) at e)
+no_lines p q size i answers pictures h e = sym (written_none p) ∙ (rw (drop_of_length-le answers h) at e)
 
 -- ---- the buffers of an accepted class
 

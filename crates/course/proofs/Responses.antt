@@ -1,4 +1,4 @@
--- No response has more than 700,000 bytes, so the output begins with the whole of it.
+-- No response has more than 700,000 bytes, and a line shows by its first 2,049.
 use Prim.Native.Nat.{ℕ, zero, suc, ◌*◌, ◌≤◌}
 use native.Mathlib.Omega.{arith}
 use mathlib.Core.Bool.{Bool, true, false, not, ◌||◌, cond}
@@ -6,18 +6,14 @@ use mathlib.Core.Path.{◌≡◌, refl, sym, ap, ◌∙◌}
 use mathlib.Core.List.{List, [], ◌∷◌, ◌++◌}
 use lib.Dec.{lit≤, leb, ltb}
 use lib.ListN.{length, take, drop, length-append}
-use lib.Seq.{take_at, take_all, length-take-le}
+use lib.Seq.{take_all, length-take-le}
 use borrow.Author.Tests.{leb-true, leb-false, ltb-false, not-false}
-use Rattle.command.specs.Printing.{text, decimal, hundredths, line_feed, buffer_of, add}
-use Rattle.command.specs.Transcript.{Held}
+use Rattle.command.specs.Printing.{text, decimal, hundredths, line_feed}
 use Rattle.command.specs.Request.{Ask, plain, script, turn, turns, view, chart, mark, mark_own, help}
 use Rattle.command.specs.Model.Request.{ask_of}
-use Rattle.command.specs.declared.line.Line.{Line}
 use Rattle.command.proofs.Lines.{decimal-length, hundredths-length}
 use Rattle.command.proofs.Put.{hex-length}
-use Rattle.command.proofs.Held.{held-length}
 use Rattle.command.proofs.Grammar.{course_grammar_holds}
-use Rattle.command.proofs.Transcript.{printed, printed-fits}
 use Rattle.state.specs.declared.Session.{Session}
 use Rattle.state.specs.Rules.{session_ok}
 use Rattle.reference.specs.Lists.{if_zero}
@@ -49,8 +45,7 @@ use Rattle.view.proofs.Sizes.{view-length}
 use Rattle.chart.proofs.Length.{chart-length}
 use Rattle.course.specs.Answers.{move_text, zeros, class_lines, class_text, mark_text, help_text}
 use Rattle.script.specs.Contract.{set_refusal}
-use Rattle.mark.specs.declared.Marked.{Marked}
-use Rattle.mark.specs.Mark.{marked, state_marked}
+use Rattle.mark.specs.Mark.{Marked, marked, state_marked}
 use Rattle.course.proofs.Scripts.{zeros-long}
 use Rattle.course.specs.Program.{Context, plain_response, response, after, course}
 
@@ -155,14 +150,13 @@ response-length k (mark b c) = omega (arith, mark-length (marked b c))
 response-length k (mark_own c) = choice_length k.base.begun _ question_mark (omega (arith, mark-length (state_marked k.base.session.state c))) (omega arith)
 response-length k help = help-length
 
--- ---- a line that a buffer holds, and the response that the output begins with
+pub response_fits : (l : List ℕ) (k : Context) → length (course.response l k) ≤ 700000
+response_fits l k = response-length k (ask_of l)
 
-pub response-fits : (out out' : List ℕ) (n : ℕ) (a : Ask) (k : Context) → 700000 ≤ length out → buffer_of out' n ≡ add (buffer_of out 0) (response k a) → n ≤ length out'
-response-fits out out' n a k h e = printed-fits out out' (response k a) n e (omega (arith, response-length k a))
+-- ---- a line that is too long shows by its first 2,049 bytes
 
--- a line that is too long shows by its first 2,049 bytes
-front-asks : (n : ℕ) (l : List ℕ) → 2049 ≤ n → ask_of (take n l) ≡ ask_of l
-front-asks n l h = go (leb (length l) n) refl
+same_ask : (n : ℕ) (l : List ℕ) → 2049 ≤ n → ask_of (take n l) ≡ ask_of l
+same_ask n l h = go (leb (length l) n) refl
   where
     go : (t : Bool) → leb (length l) n ≡ t → ask_of (take n l) ≡ ask_of l
     go true e = ap ask_of (take_all n l (leb-true (length l) n e))
@@ -170,16 +164,5 @@ front-asks n l h = go (leb (length l) n) refl
         let k = leb-false (length l) n e in
         course_grammar_holds.long (take n l) (omega (arith, length-take-le n l (omega arith))) ∙ sym (course_grammar_holds.long l (omega arith))
 
-held_asks : (l before : List ℕ) (line : Line) (bytes : List ℕ) → 2049 ≤ length bytes → Held l before line bytes → ask_of (take line.len bytes) ≡ ask_of l
-held_asks l before line bytes n h =
-    ap ask_of (ap (take line.len) h.all ∙ take_at (take (length before) l) (drop line.len before) line.len (sym h.len))
-    ∙ front-asks (length before) l (omega (arith, held-length l before line bytes h))
-
-pub responded : (out out' : List ℕ) (n : ℕ) (line : Line) (before bytes : List ℕ) (k k' : Context) → 700000 ≤ length out → 2049 ≤ length bytes
-    → k' ≡ after k (ask_of (take line.len bytes)) → buffer_of out' n ≡ add (buffer_of out 0) (response k (ask_of (take line.len bytes)))
-    → (l : List ℕ) → Held l before line bytes → (take n out' ≡ course.response l k) × (k' ≡ course.after l k)
-responded out out' n line before bytes k k' h b a e l w =
-    let q = held_asks l before line bytes b w in (
-      printed out out' _ n e (omega (arith, response-length k (ask_of (take line.len bytes)))) ∙ ap (response k) q,
-      a ∙ ap (after k) q,
-    )
+pub front_read : (n : ℕ) (l : List ℕ) (k : Context) → 2049 ≤ n → (course.response (take n l) k ≡ course.response l k) × (course.after (take n l) k ≡ course.after l k)
+front_read n l k h = let e = same_ask n l h in (rw e, rw e)

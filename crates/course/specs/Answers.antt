@@ -2,7 +2,7 @@
 -- Assumes nothing.
 use Rattle.std.specs.Prelude.{ℕ, List, [], ◌∷◌, ◌++◌, replicate}
 use Rattle.command.specs.Printing.{text, decimal, hundredths, hex, line_feed}
-use Rattle.mark.specs.declared.Marked.{Marked}
+use Rattle.mark.specs.Mark.{Marked}
 use Rattle.state.specs.declared.Session.{Session}
 use Rattle.reference.specs.Lists.{if_zero}
 use Rattle.reference.specs.Start.{Config}

@@ -16,9 +16,9 @@ use Rattle.turns.specs.Contract.{turned, turn_journal, classed, class_journal}
 use Rattle.view.specs.Table.{view_text}
 use Rattle.chart.specs.Chart.{chart_text}
 use Rattle.mark.specs.Mark.{marked, state_marked}
-use Rattle.shell.specs.declared.Shell.{Shell}
 use Rattle.shell.specs.Answers as shell
 use Rattle.shell.specs.Answers.{number, question_mark}
+use Rattle.course.specs.declared.answers.Course.{Course}
 use Rattle.course.specs.Answers.{move_text, zeros, class_text, mark_text, help_text}
 
 -- the session and the journal, as the stepper has them, and the threads' scripts
@@ -26,9 +26,9 @@ pub record Context : Type 0 where
   pub base : shell.Context
   pub scripts : List ℕ
 
--- what the program holds, with the journal and the scripts
-abbrev pub context_of : Shell → List ℕ → List ℕ → Context
-context_of d j x = record { base = shell.context_of d j; scripts = x }
+-- what the program holds
+abbrev pub context_of : Course → Context
+context_of c = record { base = shell.context_of c.shell; scripts = c.scripts.now }
 
 -- before the first line; the program begins with the scripts of 32 threads, all empty
 abbrev pub started_with : List ℕ → List ℕ → Context

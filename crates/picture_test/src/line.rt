@@ -1,6 +1,13 @@
 // The bytes of a line of hexadecimal digits, fed digit by digit.
 ghost use Rattle.std.specs.Prelude.{◌<◌};
 
+// A picture has at most 296 bytes, and one more is tried.
+#[derive(Drop)]
+pub struct Line {
+    pub bytes: [u8; 297],
+    pub digits: usize,
+}
+
 // What a digit is worth; any other byte is worth 0.
 fn worth(b: u8) -> u8
     ensures { result < 16 }
@@ -12,14 +19,26 @@ fn worth(b: u8) -> u8
     }
 }
 
-// One digit more where the line has room: how many there are then.
-pub(crate) fn fed(line: &mut [u8], digits: usize, b: u8) -> usize {
-    let at = digits / 2;
-    if at < line.len() {
-        let high = line[at];
-        let d = worth(b);
-        line[at] = if digits % 2 == 0 { 16 * d } else { high | d };
-        return digits + 1;
+impl Line {
+    pub(crate) fn empty() -> Line {
+        Line {
+            bytes: [0; 297],
+            digits: 0,
+        }
     }
-    digits
+
+    // One digit more where the line has room.
+    pub(crate) fn feed(&mut self, b: u8) {
+        let at = self.digits / 2;
+        if at < self.bytes.len() {
+            let high = self.bytes[at];
+            let d = worth(b);
+            self.bytes[at] = if self.digits % 2 == 0 {
+                16 * d
+            } else {
+                high | d
+            };
+            self.digits += 1;
+        }
+    }
 }

@@ -6,17 +6,18 @@ mod print;
 mod reading;
 mod writing;
 
+use line::Line;
 use print::{hex, word};
+use state::State;
 
 const STDIN: i32 = 0;
 
-// The bytes, and what comes of the state that they show.
+// The bytes, and what comes of the state that they show: an all-zero one where reading is refused.
 fn show(bytes: &[u8]) {
     word(b"picture ");
     hex(bytes);
     word(b"\n");
-    let got = picture::read(bytes);
-    let state = got.state;
+    let state = picture::read(bytes).unwrap_or(State::zero());
     writing::writes(state, bytes.len());
     writing::turns(state);
 }
@@ -29,26 +30,25 @@ fn answer(line: &mut [u8], n: usize) {
     }
 }
 
-// One byte of input: how many digits the line has then.
-fn feed(line: &mut [u8], digits: usize, b: u8) -> usize {
+// A line is answered at its line feed.
+fn feed(line: &mut Line, b: u8) {
     if b == b'\n' {
-        answer(line, digits / 2);
-        return 0;
-    }
-    line::fed(line, digits, b)
-}
-
-fn feed_all(line: &mut [u8], input: &[u8]) {
-    let mut digits = 0;
-    for i in 0..input.len() {
-        digits = feed(line, digits, input[i]);
+        answer(&mut line.bytes, line.digits / 2);
+        line.digits = 0;
+    } else {
+        line.feed(b);
     }
 }
 
-// A picture has at most 296 bytes, and one more is tried.
+fn feed_all(input: &[u8]) {
+    let mut line = Line::empty();
+    for &b in input {
+        feed(&mut line, b);
+    }
+}
+
 fn main() {
     let mut input = io::large_buffer();
-    let mut line = [0u8; 297];
     let n = io::read_full(STDIN, &mut input);
-    feed_all(&mut line, &input[..n]);
+    feed_all(&input[..n]);
 }

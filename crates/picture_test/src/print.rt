@@ -16,7 +16,7 @@ fn byte(b: u8) {
 }
 
 pub(crate) fn hex(bytes: &[u8]) {
-    for i in 0..bytes.len() {
-        byte(bytes[i]);
+    for &b in bytes {
+        byte(b);
     }
 }

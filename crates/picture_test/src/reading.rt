@@ -2,13 +2,14 @@
 ghost use Rattle.std.specs.Prelude.{◌≡◌};
 
 use crate::print::{number, word};
+use state::refusal::outcome;
 
 // A space and the answer of the first n bytes, where the line has so many.
 fn read(line: &[u8], n: usize) {
     if n <= line.len() {
-        let got = picture::read(&line[..n]);
+        let answer = picture::read(&line[..n]);
         word(b" ");
-        number(got.refusal);
+        number(outcome(answer));
     }
 }
 

@@ -1,13 +1,13 @@
 // What writing and turns ahead get of the state that was read, which is all zero where reading was refused.
 use crate::print::{hex, number, word};
-use picture::answer::Ahead;
 use state::State;
+use state::refusal::outcome;
 
 // Into a buffer: the answer, and the buffer's bytes then.
 fn write(state: State, buffer: &mut [u8]) {
-    let refusal = picture::write(state, buffer);
+    let answer = picture::write(state, buffer);
     word(b" ");
-    number(refusal);
+    number(outcome(answer));
     word(b" ");
     hex(buffer);
 }
@@ -37,17 +37,16 @@ pub(crate) fn writes(state: State, n: usize) {
 
 // A number for a thread that waits, - for one that does not, r before a refusal.
 fn turns_of(state: State, thread: u8) {
-    let ahead = picture::ahead(state, thread);
-    match ahead {
-        Ahead::Turns(n) => {
+    match picture::ahead(state, thread) {
+        Ok(Some(n)) => {
             word(b" ");
             number(n)
-        },
-        Ahead::NotWaiting => word(b" -"),
-        Ahead::Refused(n) => {
+        }
+        Ok(None) => word(b" -"),
+        Err(refusal) => {
             word(b" r");
-            number(n)
-        },
+            number(refusal.number())
+        }
     }
 }
 

@@ -1,23 +1,8 @@
 // The commands of scripted threads: a scripted start, turns, classes, and the buffers that these are lent.
-use crate::calls::{copy, hash, noise, number, put, report, report_move, report_then};
+use crate::bench::{Bench, nothing};
+use crate::bytes::{hash, noise, number};
 use crate::line::{Line, low};
-use state::Session;
-
-// How many bytes of the journal and of the scripts are lent.
-#[derive(Clone, Copy)]
-pub struct Lent {
-    pub journal: isize,
-    pub scripts: isize,
-}
-
-impl Lent {
-    pub(crate) fn all() -> Lent {
-        Lent {
-            journal: 12001,
-            scripts: 420,
-        }
-    }
-}
+use state::access::put;
 
 // Bytes i to i + 2 become the numbers after the first.
 fn edit(bytes: &mut [u8], line: Line) {
@@ -34,109 +19,73 @@ fn up_to(b: u8, most: u8) -> u8 {
 // Numbers from 0 to the most, from a seed.
 fn build(seed: u16, most: u8, list: &mut [u8]) {
     noise(seed, list);
-    for i in 0..list.len() {
-        let b = list[i];
-        put(list, i, up_to(b, most));
+    for b in list.iter_mut() {
+        *b = up_to(*b, most);
     }
 }
 
-fn init(session: Session, lent: Lent, line: Line, scripts: &[u8]) -> Session {
-    let n = io::count(lent.scripts, scripts);
-    let p = line.byte(1);
-    let t = line.byte(2);
-    let m = line.byte(3);
-    let b = line.byte(4);
-    let stealing = line.byte(5);
-    let answer = turns::start(p, t, m, b, stealing, &scripts[..n]);
-    report(session, answer, true)
-}
-
-fn turn(session: Session, lent: Lent, line: Line, journal: &mut [u8], scripts: &[u8]) -> Session {
-    let mut before = [0u8; 12001];
-    copy(journal, &mut before);
-    let n = io::count(lent.journal, journal);
-    let k = io::count(lent.scripts, scripts);
-    let p = line.byte(1);
-    let answer = turns::turn(session, &mut journal[..n], &scripts[..k], p);
-    let alike = check::same(&before, journal);
-    report_move(session, answer, alike)
-}
-
-// Prints also numbers that stand for all answers and pictures.
-fn class(
-    session: Session,
-    lent: Lent,
-    line: Line,
-    journal: &mut [u8],
-    scripts: &[u8],
-    list: &[u8],
-    answers: &mut [u8],
-    pictures: &mut [u8],
-) -> Session {
-    let before = hash(journal);
-    let n = io::count(lent.journal, journal);
-    let k = io::count(lent.scripts, scripts);
-    let c = io::count(line.number(1) as isize, list);
-    let a = io::count(line.number(2) as isize, answers);
-    let q = io::count(line.number(3) as isize, pictures);
-    let answer = turns::class(
-        session,
-        &mut journal[..n],
-        &scripts[..k],
-        &list[..c],
-        &mut answers[..a],
-        &mut pictures[..q],
-    );
-    let alike = before == hash(journal);
-    let next = report_then(session, answer, alike, b" ");
-    number(hash(answers), b" ");
-    number(hash(pictures), b"\n");
-    next
-}
-
-// Whether a word is one of these commands.
-pub(crate) fn of_scripts(word: u8) -> bool {
-    match word {
-        b'i' | b't' | b'd' | b'e' | b'o' | b'b' | b'v' => true,
-        _ => false,
+impl Bench {
+    pub(crate) fn init(&mut self, line: Line) {
+        let n = io::count(self.scripts_lent, &self.scripts);
+        let answer = turns::start(
+            line.byte(1),
+            line.byte(2),
+            line.byte(3),
+            line.byte(4),
+            line.byte(5),
+            &self.scripts[..n],
+        );
+        self.report(answer, nothing(), true, b"\n");
     }
-}
 
-// The commands that fill a buffer.
-fn fill(line: Line, scripts: &mut [u8], list: &mut [u8], answers: &mut [u8], pictures: &mut [u8]) {
-    let word = line.word;
-    match word {
-        b'e' => edit(scripts, line),
-        b'o' => edit(list, line),
-        b'b' => build(line.number(1), line.byte(2), list),
-        _ => {
-            noise(line.number(1), answers);
-            noise(line.number(1), pictures);
-        }
+    pub(crate) fn turn(&mut self, p: u8) {
+        let before = self.journal;
+        let n = io::count(self.journal_lent, &self.journal);
+        let scripts = self.scripts;
+        let k = io::count(self.scripts_lent, &scripts);
+        let answer = turns::turn(self.session, &mut self.journal[..n], &scripts[..k], p);
+        let alike = self.journal == before;
+        self.report_move(answer, alike);
     }
-}
 
-// Executes a line on scripted threads.
-pub(crate) fn execute(
-    session: Session,
-    lent: Lent,
-    line: Line,
-    journal: &mut [u8],
-    scripts: &mut [u8],
-    list: &mut [u8],
-    answers: &mut [u8],
-    pictures: &mut [u8],
-) -> Session {
-    let word = line.word;
-    match word {
-        b'i' => init(session, lent, line, scripts),
-        b't' => turn(session, lent, line, journal, scripts),
-        b'd' => class(
-            session, lent, line, journal, scripts, list, answers, pictures,
-        ),
-        _ => {
-            fill(line, scripts, list, answers, pictures);
-            session
+    // Prints also numbers that stand for all answers and pictures.
+    pub(crate) fn class(&mut self, line: Line) {
+        let before = hash(&self.journal);
+        let n = io::count(self.journal_lent, &self.journal);
+        let scripts = self.scripts;
+        let k = io::count(self.scripts_lent, &scripts);
+        let list = self.list;
+        let c = io::count(line.number(1) as isize, &list);
+        let mut answers = self.answers;
+        let a = io::count(line.number(2) as isize, &answers);
+        let mut pictures = self.pictures;
+        let q = io::count(line.number(3) as isize, &pictures);
+        let answer = turns::class(
+            self.session,
+            &mut self.journal[..n],
+            &scripts[..k],
+            &list[..c],
+            &mut answers[..a],
+            &mut pictures[..q],
+        );
+        self.answers = answers;
+        self.pictures = pictures;
+        let alike = before == hash(&self.journal);
+        self.report(answer, self.session, alike, b" ");
+        number(hash(&self.answers), b" ");
+        number(hash(&self.pictures), b"\n");
+    }
+
+    // The commands that fill a buffer.
+    pub(crate) fn fill(&mut self, line: Line) {
+        match line.word {
+            b'e' => edit(&mut self.scripts, line),
+            b'o' => edit(&mut self.list, line),
+            b'b' => build(line.number(1), line.byte(2), &mut self.list),
+            _ => {
+                noise(line.number(1), &mut self.answers);
+                noise(line.number(1), &mut self.pictures);
+            }
         }
     }
 }

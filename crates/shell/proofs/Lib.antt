@@ -1,4 +1,3 @@
 -- Laws that the functions' proofs cite, and how long a response is.
-pub mod Buffers
 pub mod PictureText
 pub mod Responses

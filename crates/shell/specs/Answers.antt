@@ -1,7 +1,7 @@
 -- "The program", document 01: what the stepper's lines are answered, by any program that holds a session, and what they leave. A line's command is the one that
 -- Grammar of command/specs says (`command_of`).
 -- Assumes nothing.
-use Rattle.std.specs.Prelude.{ℕ, Bool, true, false, cond, List, ◌∷◌, ◌++◌, eqb}
+use Rattle.std.specs.Prelude.{ℕ, Bool, true, false, cond, List, ◌∷◌, ◌++◌, eqb, Option, None, Some}
 use Rattle.command.specs.Printing.{decimal, hex, line_feed}
 use Rattle.command.specs.declared.Command.{Command}
 use Rattle.command.specs.declared.Command.TheVariants.{Start, StartWith, Move, Goto, Show, Unknown}
@@ -11,8 +11,7 @@ use Rattle.state.specs.Association.{decode}
 use Rattle.reference.specs.Picture.{picture}
 use Rattle.reference.specs.Step.{move_of}
 use Rattle.picture.specs.Picture.{write_refusal}
-use Rattle.session.specs.declared.Answer.{Answer}
-use Rattle.session.specs.Contract.{table, started, moved, journal_after, went}
+use Rattle.session.specs.Contract.{Answer, table, started, moved, journal_after, went}
 use Rattle.shell.specs.declared.Shell.{Shell}
 
 -- begun: a start has been accepted; its session, and the journal
@@ -21,13 +20,17 @@ pub record Context : Type 0 where
   pub session : Session
   pub journal : List ℕ
 
--- what the program holds, with the journal
-abbrev pub context_of : Shell → List ℕ → Context
-context_of d j = record { begun = d.begun; session = d.session; journal = j }
-
 -- before the first line
 abbrev pub initial : List ℕ → Context
 initial j = record { begun = false; session = (started (table 0 0 0 0 0)).session; journal = j }
+
+-- what the program holds: no session before a start has been accepted
+abbrev pub context_in : Option Session → List ℕ → Context
+context_in None j = initial j
+context_in (Some r) j = record { begun = true; session = r; journal = j }
+
+abbrev pub context_of : Shell → Context
+context_of d = context_in d.session d.journal.now
 
 -- a line with `?`
 abbrev pub question_mark : List ℕ

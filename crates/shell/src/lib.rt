@@ -1,155 +1,115 @@
-// The session that a program holds, and its answers to the lines of the stepper, put at the front of the output.
+// The session that a program holds, and its answers to the lines of the stepper, put on a page.
 #![tactic(auto)]
 
-ghost use Rattle.std.specs.Prelude.{◌≡◌, false, List, ℕ};
-ghost use Rattle.command.specs.Printing.{buffer_of, add};
+ghost use Rattle.std.specs.Prelude.{◌≡◌, true, Some, List, ℕ};
+ghost use Rattle.command.specs.Printing.{written};
 ghost use Rattle.reference.specs.Step.{move_of};
-ghost use Rattle.session.specs.Contract.{table, started, moved, journal_after, went};
-ghost use Rattle.shell.specs.Answers.{number, context_of, question_mark, picture_text, begun_by, holding, response, after};
+ghost use Rattle.session.specs.Contract.{table, answer_of, started, move_answer_of, moved, journal_after, went};
+ghost use Rattle.shell.specs.Answers.{number, context_of, initial, picture_text, begun_by, holding, response, after};
 
 use command::Command;
-use command::input::Input;
-use command::printing::{hex_line, number_line, put};
+use command::printing::Page;
+use session::Moved;
 use state::layout::{Width, picture_bytes};
+use state::refusal::{Refusal, outcome};
 use state::{Session, State};
 
-// begun: a start has been accepted; session: its record.
-#[derive(Clone, Copy)]
-pub struct Shell {
-    pub begun: bool,
-    pub session: Session,
-}
-
-// What a line leaves; len: the bytes of the output that are its response.
-#[derive(Clone, Copy)]
-pub struct Reply {
-    pub shell: Shell,
-    pub len: usize,
-}
-
-// What a program holds between lines, and of the last line: written: the bytes of the output that were handed to write; ok: they were written; ended: the
-// input ended with it.
-#[derive(Clone, Copy)]
-pub struct Progress {
-    pub shell: Shell,
-    pub input: Input,
-    pub written: usize,
-    pub ok: bool,
-    pub ended: bool,
-}
-
-pub fn new() -> Shell
-    ensures { result ≡ record { begun = false; session = (started (table 0 0 0 0 0)).session } }
-{
-    let none = session::start(0, 0, 0, 0, 0);
-    let session = none.session;
-    Shell {
-        begun: false,
-        session,
-    }
+// session: there once a start has been accepted.
+#[derive(Drop)]
+pub struct Shell<'a> {
+    pub session: Option<Session>,
+    pub journal: &'a mut [u8],
 }
 
 // The picture of a state on a line of its own.
-fn picture_line(out: &mut [u8], state: State) -> usize
-    ensures { buffer_of out.new result ≡ add (buffer_of out.old 0) (picture_text state) }
+fn picture_line(state: State, page: &mut Page)
+    ensures { page.new ≡ written page.old (picture_text state) }
 {
-    let n = picture_bytes(state.p, state.t, state.m);
     let mut bytes = [0u8; Width::PICTURE];
-    let refused = picture::write(state, &mut bytes);
-    if refused == 0 {
-        return hex_line(out, 0, &bytes[..n]);
+    match picture::write(state, &mut bytes) {
+        Ok(()) => page.hex_line(&bytes[..picture_bytes(state.p, state.t, state.m)]),
+        Err(refusal) => page.number_line(refusal.number()),
     }
-    number_line(out, 0, refused)
 }
 
-// A question mark and a line feed; nothing else changes.
-pub fn unknown(shell: Shell, out: &mut [u8]) -> Reply
-    ensures by_index { (j : List ℕ) → context_of result.shell j ≡ context_of shell j }
-    ensures len_after { buffer_of out.new result.len ≡ add (buffer_of out.old 0) question_mark }
-{
-    let len = put(out, 0, b"?\n");
-    Reply { shell, len }
-}
-
-fn show(shell: Shell, out: &mut [u8]) -> Reply
-    ensures by_index { (j : List ℕ) → context_of result.shell j ≡ context_of shell j }
-    ensures len_after { buffer_of out.new result.len ≡ add (buffer_of out.old 0) (picture_text shell.session.state) }
-{
-    let session = shell.session;
-    let state = session.state;
-    let len = picture_line(out, state);
-    Reply { shell, len }
-}
-
-// A refused start keeps the old session.
-fn start(shell: Shell, out: &mut [u8], p: u8, t: u8, m: u8, b: u8, stealing: u8) -> Reply
-    ensures by_index { (j : List ℕ) → context_of result.shell j ≡ begun_by (started (table p t m b stealing)) (context_of shell j) }
-    ensures len_after { buffer_of out.new result.len ≡ add (buffer_of out.old 0) (number (started (table p t m b stealing)).refusal) }
-{
-    let answer = session::start(p, t, m, b, stealing);
-    let refusal = answer.refusal;
-    let len = number_line(out, 0, refusal);
-    if refusal == 0 {
-        let session = answer.session;
-        let begun = Shell {
-            begun: true,
-            session,
-        };
-        return Reply { shell: begun, len };
+impl<'a> Shell<'a> {
+    pub fn new(journal: &'a mut [u8]) -> Shell<'a>
+        ensures { context_of result ≡ initial journal.old }
+    {
+        Shell {
+            session: None,
+            journal,
+        }
     }
-    Reply { shell, len }
-}
 
-fn step(shell: Shell, journal: &mut [u8], out: &mut [u8], p: u8, a: u8, o: u8) -> Reply
-    ensures journal_after { context_of result.shell journal.new ≡ holding shell.begun (moved shell.session journal.old (move_of p a o)).session (journal_after shell.session journal.old (move_of p a o)) }
-    ensures len_after { buffer_of out.new result.len ≡ add (buffer_of out.old 0) (number (moved shell.session journal.old (move_of p a o)).refusal) }
-{
-    let session = shell.session;
-    let answer = session::make_move(session, journal, p, a, o);
-    let left = answer.session;
-    let mut next = shell;
-    next.session = left;
-    let len = number_line(out, 0, answer.refusal);
-    Reply { shell: next, len }
-}
+    // A refused start keeps the old session.
+    #[tactic(auto, using(state::proofs::Refused::numbered), unfolding(state::specs::Refusal::outcome, session::specs::Contract::answer_of))]
+    fn start(&mut self, p: u8, t: u8, m: u8, b: u8, stealing: u8, page: &mut Page)
+        ensures self_after { context_of self.new ≡ begun_by (started (table p t m b stealing)) (context_of self.old) }
+        ensures page_after { page.new ≡ written page.old (number (started (table p t m b stealing)).refusal) }
+    {
+        let answer = session::start(p, t, m, b, stealing);
+        page.number_line(outcome(answer));
+        if let Ok(session) = answer {
+            self.session = Some(session);
+        }
+    }
 
-fn goto(shell: Shell, journal: &[u8], out: &mut [u8], k: u16) -> Reply
-    ensures journal_value { context_of result.shell journal.now ≡ holding shell.begun (went shell.session journal.now k).session journal.now }
-    ensures len_after { buffer_of out.new result.len ≡ add (buffer_of out.old 0) (number (went shell.session journal.now k).refusal) }
-{
-    let session = shell.session;
-    let answer = session::goto(session, journal, k as usize);
-    let left = answer.session;
-    let mut next = shell;
-    next.session = left;
-    let len = number_line(out, 0, answer.refusal);
-    Reply { shell: next, len }
-}
+    // A move in a session that has begun.
+    #[tactic(auto, unfolding(session::specs::Contract::move_answer_of))]
+    pub fn make_move(&mut self, session: Session, p: u8, a: u8, o: u8) -> Result<Moved, Refusal>
+        requires { self.old.session ≡ Some session }
+        ensures answer { move_answer_of session result ≡ moved session self.old.journal.now (move_of p a o) }
+        ensures self_after { context_of self.new ≡ holding true (moved session self.old.journal.now (move_of p a o)).session (journal_after session self.old.journal.now (move_of p a o)) }
+    {
+        let answer = session::make_move(session, self.journal, p, a, o);
+        if let Ok(made) = answer {
+            self.session = Some(made.session);
+        }
+        answer
+    }
 
-// One line of the stepper: the output begins with its response.
-pub fn respond(shell: Shell, journal: &mut [u8], command: Command, out: &mut [u8]) -> Reply
-    ensures journal_after { context_of result.shell journal.new ≡ after command (context_of shell journal.old) }
-    ensures len_after { buffer_of out.new result.len ≡ add (buffer_of out.old 0) (response command (context_of shell journal.old)) }
-{
-    let begun = shell.begun;
-    match command {
-        Command::Start(p, t, m, b) => start(shell, out, p, t, m, b, 0),
-        Command::StartWith(p, t, m, b, stealing) => start(shell, out, p, t, m, b, stealing),
-        Command::Move(p, a, o) => if begun {
-            step(shell, journal, out, p, a, o)
-        } else {
-            unknown(shell, out)
-        },
-        Command::Goto(k) => if begun {
-            goto(shell, journal, out, k)
-        } else {
-            unknown(shell, out)
-        },
-        Command::Show => if begun {
-            show(shell, out)
-        } else {
-            unknown(shell, out)
-        },
-        Command::Unknown => unknown(shell, out),
+    #[tactic(auto, unfolding(state::specs::Refusal::outcome, session::specs::Contract::move_answer_of))]
+    fn step(&mut self, session: Session, p: u8, a: u8, o: u8, page: &mut Page)
+        requires { self.old.session ≡ Some session }
+        ensures self_after { context_of self.new ≡ holding true (moved session self.old.journal.now (move_of p a o)).session (journal_after session self.old.journal.now (move_of p a o)) }
+        ensures page_after { page.new ≡ written page.old (number (moved session self.old.journal.now (move_of p a o)).refusal) }
+    {
+        page.number_line(outcome(self.make_move(session, p, a, o)));
+    }
+
+    fn went(&self, session: Session, k: u16) -> Result<Session, Refusal>
+        ensures { answer_of session result ≡ went session self.now.journal.now k }
+    {
+        session::goto(session, self.journal, k as usize)
+    }
+
+    #[tactic(auto, unfolding(state::specs::Refusal::outcome, session::specs::Contract::answer_of))]
+    fn goto(&mut self, session: Session, k: u16, page: &mut Page)
+        requires { self.old.session ≡ Some session }
+        ensures self_after { context_of self.new ≡ holding true (went session self.old.journal.now k).session self.old.journal.now }
+        ensures page_after { page.new ≡ written page.old (number (went session self.old.journal.now k).refusal) }
+    {
+        let answer = self.went(session, k);
+        page.number_line(outcome(answer));
+        if let Ok(session) = answer {
+            self.session = Some(session);
+        }
+    }
+
+    // One line of the stepper; before a start, one about the session is answered with a question mark.
+    #[tactic(auto, unfolding(crate::specs::Answers::response, crate::specs::Answers::after))]
+    pub fn respond(&mut self, command: Command, page: &mut Page)
+        ensures self_after { context_of self.new ≡ after command (context_of self.old) }
+        ensures page_after { page.new ≡ written page.old (response command (context_of self.old)) }
+    {
+        match (command, self.session) {
+            (Command::Start(p, t, m, b), _) => self.start(p, t, m, b, 0, page),
+            (Command::StartWith(p, t, m, b, stealing), _) => self.start(p, t, m, b, stealing, page),
+            (Command::Move(p, a, o), Some(session)) => self.step(session, p, a, o, page),
+            (Command::Goto(k), Some(session)) => self.goto(session, k, page),
+            (Command::Show, Some(session)) => picture_line(session.state, page),
+            _ => page.put(b"?\n"),
+        }
     }
 }

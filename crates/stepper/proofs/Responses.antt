@@ -1,28 +1,30 @@
--- The response to a line that the output begins with.
+-- No response has more than 593 bytes, and a line shows by its first 64.
 use Prim.Native.Nat.{ℕ, ◌≤◌}
 use native.Mathlib.Omega.{arith}
-use mathlib.Core.Path.{◌≡◌, ap, ◌∙◌}
+use mathlib.Core.Bool.{Bool, true, false}
+use mathlib.Core.Path.{◌≡◌, refl, sym, ap, ◌∙◌}
 use mathlib.Core.List.{List}
+use lib.Dec.{leb}
 use lib.ListN.{length, take}
-use Rattle.command.specs.Printing.{buffer_of, add}
-use Rattle.command.specs.Transcript.{Held}
-use Rattle.command.specs.Model.Line.{command_in}
-use Rattle.command.specs.declared.Command.{Command}
-use Rattle.command.specs.declared.line.Line.{Line}
-use Rattle.command.proofs.Held.{held-read}
-use Rattle.command.proofs.Transcript.{printed, printed-fits}
-use Rattle.shell.specs.Answers.{Context, response, after}
+use lib.Seq.{take_all, length-take-le}
+use borrow.Author.Tests.{leb-true, leb-false}
+use Rattle.command.specs.Model.Reading.{command_of}
+use Rattle.command.proofs.Lines.{long-unknown}
+use Rattle.shell.specs.Answers.{Context}
 use Rattle.shell.proofs.Responses.{response-length}
 use Rattle.stepper.specs.Program.{stepper}
 
-pub response-fits : (out out' : List ℕ) (n : ℕ) (c : Command) (k : Context) → 593 ≤ length out → buffer_of out' n ≡ add (buffer_of out 0) (response c k) → n ≤ length out'
-response-fits out out' n c k h e = printed-fits out out' (response c k) n e (omega (arith, response-length c k))
+pub response_fits : (l : List ℕ) (k : Context) → length (stepper.response l k) ≤ 593
+response_fits l k = response-length (command_of l) k
 
-pub responded : (out out' : List ℕ) (n : ℕ) (line : Line) (before bytes : List ℕ) (c : Command) (k k' : Context) → 593 ≤ length out → 64 ≤ length bytes
-    → c ≡ command_in line bytes → k' ≡ after c k → buffer_of out' n ≡ add (buffer_of out 0) (response c k)
-    → (l : List ℕ) → Held l before line bytes → (take n out' ≡ stepper.response l k) × (k' ≡ stepper.after l k)
-responded out out' n line before bytes c k k' h b d a e l w =
-    let q = d ∙ held-read l before line bytes b w in (
-      printed out out' _ n e (omega (arith, response-length c k)) ∙ ap (λ (x : Command). response x k) q,
-      a ∙ ap (λ (x : Command). after x k) q,
-    )
+same_command : (n : ℕ) (l : List ℕ) → 64 ≤ n → command_of (take n l) ≡ command_of l
+same_command n l h = go (leb (length l) n) refl
+  where
+    go : (t : Bool) → leb (length l) n ≡ t → command_of (take n l) ≡ command_of l
+    go true e = ap command_of (take_all n l (leb-true (length l) n e))
+    go false e =
+        let k = leb-false (length l) n e in
+        long-unknown (take n l) (omega (arith, length-take-le n l (omega arith))) ∙ sym (long-unknown l (omega arith))
+
+pub front_read : (n : ℕ) (l : List ℕ) (k : Context) → 64 ≤ n → (stepper.response (take n l) k ≡ stepper.response l k) × (stepper.after (take n l) k ≡ stepper.after l k)
+front_read n l k h = let e = same_command n l h in (rw e, rw e)

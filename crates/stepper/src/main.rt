@@ -1,83 +1,43 @@
 // Reads lines from standard input to its end and responds to each with a line.
 #![tactic(auto)]
 
-ghost use Rattle.std.specs.Prelude.{◌≤◌, length, take};
-ghost use Rattle.command.specs.Transcript.{Turn, Run};
+ghost use Rattle.std.specs.Prelude.{◌≤◌, length};
+ghost use Rattle.command.specs.Transcript.{Run};
 ghost use Rattle.shell.specs.Answers.{context_of, initial};
 ghost use Rattle.stepper.specs.Program.{stepper};
 
-use command::input::{next_line, unread};
-use shell::Progress;
+use command::printing::Page;
+use command::program::Answering;
+use command::reading::command_of;
+use shell::Shell;
 use std::io::Stdin;
 
-const STDOUT: i32 = 1;
+#[derive(Drop)]
+struct Stepper<'a> {
+    shell: Shell<'a>,
+}
 
-// The next line: its response is handed to write before more is read.
-fn turn(
-    stdin: Stdin,
-    s: Progress,
-    journal: &mut [u8],
-    chunk: &mut [u8],
-    bytes: &mut [u8],
-    out: &mut [u8],
-) -> Progress
-    requires { (64 ≤ length bytes.old) × (593 ≤ length out.old) }
-    ensures { Turn stepper s.input chunk.old (context_of s.shell journal.old) result.input chunk.new (context_of result.shell journal.new) (take result.written out.new) result.ended }
-{
-    let shell = s.shell;
-    let next = next_line(stdin, s.input, chunk, bytes);
-    let input = next.input;
-    let ended = next.ended;
-    let counts = next.counts;
-    if counts {
-        let line = next.line;
-        let command = line.command(bytes);
-        let reply = shell::respond(shell, journal, command, out);
-        let after = reply.shell;
-        let written = reply.len;
-        let ok = io::write_all(STDOUT, &out[..written]);
-        return Progress {
-            shell: after,
-            input,
-            written,
-            ok,
-            ended,
-        };
-    }
-    Progress {
-        shell,
-        input,
-        written: 0,
-        ok: true,
-        ended,
+impl Answering for Stepper<'_> {
+    ghost program = { stepper };
+
+    ghost context = { λ s. context_of s.shell };
+
+    fn respond(&mut self, line: &[u8], page: &mut Page) {
+        self.shell.respond(command_of(line), page);
     }
 }
 
-// The whole run: line after line, until the input has ended or a write has failed.
-// A proved loop has to end, so the lines are counted down from a number that no run uses up.
+// A line of more than 64 bytes is no command. No response has more than 593 bytes.
 fn run(stdin: Stdin, journal: &mut [u8], chunk: &mut [u8], bytes: &mut [u8], out: &mut [u8])
     requires { (64 ≤ length bytes.old) × (593 ≤ length out.old) }
     ensures { Run stepper (initial journal.old) }
 {
-    let shell = shell::new();
-    let input = unread();
-    let mut s = Progress {
-        shell,
-        input,
-        written: 0,
-        ok: true,
-        ended: false,
+    let mut program = Stepper {
+        shell: Shell::new(journal),
     };
-    let mut left = u64::MAX;
-    let mut go = true;
-    while left > 0 && go {
-        s = turn(stdin, s, journal, chunk, bytes, out);
-        go = s.ok & !s.ended;
-        left -= 1;
-    }
+    command::program::run(stdin, &mut program, chunk, bytes, out);
 }
 
-// No command has more than 64 bytes, and no response more than 593.
 fn main(rt: HostRuntime) {
     let mut journal = [0u8; 12000];
     let mut chunk = [0u8; 512];
