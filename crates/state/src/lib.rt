@@ -11,7 +11,7 @@ pub mod start;
 #[derive(Clone, Copy, Debug, PartialEq, Eq)]
 pub struct Position {}
 
-// The lines at which a processor can stand, by their numbers.
+// The lines at which a processor can stand, by their numbers. No enum: a record may be handed in with any number, and rules::field::fields_ok answers those above 24.
 impl Position {
     pub const APP: u8 = 0;
 

@@ -103,6 +103,7 @@ impl Chains {
     pub fn place(&mut self, k: u8, t: Thread)
         ensures { self.new ≡ placed self.old k t }
     {
-        put(&mut self.threads, k as usize, t);
+        let i = k as usize;
+        put(&mut self.threads, i, t);
     }
 }

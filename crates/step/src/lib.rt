@@ -63,7 +63,7 @@ pub struct Decision {
     pub effect: Effect,
 }
 
-// The statuses of a thread that is in no queue.
+// The statuses of a thread that is in no queue. No enum: a record may be handed in with any number, and rules::field::fields_ok answers those above 5.
 #[derive(Clone, Copy)]
 pub struct Status {}
 
