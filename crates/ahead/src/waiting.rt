@@ -11,6 +11,7 @@ use state::range::each;
 use state::{Position, Processor, State, Thread};
 
 // How many threads stand before a thread in the chain from first: no chain has more than 32.
+// kept: beside that of picture, since this one's clause is about `before` of overtaking, and neither crate is above the other.
 fn before(threads: &[Thread], first: u8, thread: u8) -> u8
     ensures { result ≡ before thread (chain (thread_in threads.now) 32 first) }
 {

@@ -22,6 +22,7 @@ use step::moves::moved;
 fn put_columns(page: &mut Page, count: u8)
     ensures { page.new ≡ written page.old (rows column_head 1 count) }
 {
+    // kept: counted from 0: over 1..=count the proof did not close.
     for i in 0..count {
         page.column(11, |page| page.number(1 + i));
     }
@@ -37,6 +38,7 @@ fn put_heading(page: &mut Page, count: u8)
 }
 
 // A row for each of the journal's first n moves, made again from a state.
+// kept: reads at any index, since chunks of the journal would need a bound of its length that chart does not ask for.
 #[tactic(auto, using(command::proofs::Put::page_steps, crate::proofs::Loops::moves_steps))]
 fn put_moves(page: &mut Page, count: u8, first: State, journal: &[u8], n: u16)
     ensures { page.new ≡ written page.old (made_chart count first (moves n journal.now)) }

@@ -1,6 +1,6 @@
 -- Bytes in hexadecimal digits are read exactly where they are spelled; and the buffer that they are put into.
 -- Assumes nothing.
-use Prim.Native.Nat.{ℕ, suc, ◌+◌, ◌-◌, ◌*◌, ◌/◌, ◌%◌, ◌≤◌, ◌<◌}
+use Prim.Native.Nat.{ℕ, suc, ◌+◌, ◌-◌, ◌*◌, ◌/◌, ◌%◌, ◌≤◌, ◌<◌, min}
 use native.Mathlib.Numerals.{add-one}
 use native.Mathlib.Omega.{arith}
 use mathlib.Core.Bool.{Bool, true, false, ◌&&◌, cond}
@@ -241,14 +241,24 @@ pub counted-none : (o : Option (List ℕ × List ℕ)) → None ≡ counted o �
 counted-none None e = refl
 counted-none (Some y) e = absurd (cc)
 
+-- all but the first
+pub behind_one : (l : List ℕ) → part l (min (length l) 1) ≡ drop 1 l
+behind_one l = part-all l (min (length l) 1) ∙ go l
+  where
+    go : (k : List ℕ) → drop (min (length k) 1) k ≡ drop 1 k
+    go [] = refl
+    go (a ∷ k) = let e : min (length (a ∷ k)) 1 ≡ 1 = omega arith in rw e
+
 no_bytes : hex_bytes [] ≡ None
 unfolding hex_bytes after
 no_bytes = refl
 
 module _ (s b x : List ℕ) (h : x ≡ over b (bytes_of (hex_bytes s))) where
-  pub mark-none : hex_bytes s ≡ None → Asks None b x (mark_line s) (mark_front s)
+  pub mark-none : hex_bytes s ≡ None → (y k : List ℕ) → k ≡ drop 1 s → y ≡ over x (bytes_of (hex_bytes k)) → Asks None b y (mark_line s) (mark_front s)
   unfolding mark_line mark_front
-  mark-none e = record { read = rw e; buffer = h ∙ rw e; few = tt }
+  mark-none e y k k-is w =
+      let same : x ≡ b = h ∙ rw e in
+      record { read = rw e; buffer = w ∙ rw (same, k-is, e); few = tt }
 
   module _ (n : ℕ) (rest : List ℕ) (f : Counted (hex_bytes s) n rest) where
     one : x ≡ over b f.bytes

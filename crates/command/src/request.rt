@@ -72,12 +72,15 @@ fn turn(s: &[u8]) -> Option<Request>
     s.is_empty().then_some(Request::Turn(p))
 }
 
-// Behind `mark`: one picture or two. The second's bytes stand behind the first's.
+// Behind `mark`: one picture or two. The second's bytes stand behind the first's, where that has none too, and the line is no command.
 fn mark(s: &[u8], numbers: &mut [u8]) -> Option<Request>
     requires { (1024 ≤ length numbers.old) × (length s.now ≤ 2048) }
     ensures { Asks result numbers.old numbers.new (mark_line s.now) (mark_front s.now) }
 {
-    let (n, s) = hex_bytes(s, numbers)?;
+    let Some((n, s)) = hex_bytes(s, numbers) else {
+        let _ = hex_bytes(&s[s.len().min(1)..], numbers);
+        return None;
+    };
     if s.is_empty() {
         return Some(Request::MarkOwn(n as u16));
     }

@@ -58,6 +58,7 @@ impl Row for Processor {
         }
     }
 
+    // kept: the bytes of a number one by one, each in its place; the edit low_byte_first exchanges two of them.
     fn write(self, first: u8, b: &mut [u8]) {
         let seen = self.observed.sequence;
         let own = self.sequence;

@@ -26,6 +26,7 @@ fn damage(line: &mut [u8], n: usize, i: usize, flip: u8)
 }
 
 // With each byte changed in turn.
+// kept: by index, since the whole line is read while one of its bytes is changed.
 fn damages(line: &mut [u8], n: usize, flip: u8)
     ensures { line.new ≡ line.old }
 {

@@ -49,6 +49,7 @@ pub struct Effect {
 }
 
 // What comes of a line or a call: whether it would break a rule, whether it may change its mutex, and its effect.
+// kept: a flag for the rule, since with a refusal in its place every move takes more instructions (docs/PERFORMANCE.md).
 #[derive(Clone, Copy)]
 pub struct Outcome {
     pub broken: bool,

@@ -30,6 +30,7 @@ fn writes(broken: bool, effect: Effect) -> Outcome
 
 // The line at which the processor stands; at App, and at no line, nothing happens. With t threads a rule is broken where the count would leave 0 to t + 1,
 // where the own sequence number would pass 4,000, and where L9 finds an empty queue.
+// kept: one match, and no table of functions: a move jumps once by its line, and the table would be no plainer.
 #[tactic(auto, unfolding(crate::specs::Model::Moves::line_outcome, crate::specs::Model::Moves::line_effect))]
 pub(crate) fn line(t: u8, v: View) -> Outcome
     ensures { result ≡ line_outcome t v }
@@ -69,6 +70,7 @@ pub(crate) fn line(t: u8, v: View) -> Outcome
 }
 
 // Action 0 is go, 1 to 6 are the calls.
+// kept: a number, since any byte may be handed in as one; call_refusal answers those above 6.
 #[tactic(auto, unfolding(crate::specs::Model::Moves::act_outcome, crate::specs::Model::Moves::act_effect, crate::specs::Model::Moves::line_outcome))]
 pub(crate) fn act(t: u8, action: u8, operand: u8, v: View) -> Outcome
     ensures { result ≡ act_outcome t action operand v }

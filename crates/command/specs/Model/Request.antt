@@ -1,5 +1,5 @@
 -- How a line of the program `course` is read, piece by piece. CourseGrammar says what comes of it.
-use Rattle.std.specs.Prelude.{ℕ, zero, suc, ◌%◌, ◌≤◌, ◌≡◌, cond, Option, Some, None, IfSome, option_map, option_and_then, unwrap_or, List, [], ◌∷◌, ◌++◌, eqb, ltb, length}
+use Rattle.std.specs.Prelude.{ℕ, zero, suc, ◌%◌, ◌≤◌, ◌≡◌, cond, Option, Some, None, IfSome, option_map, option_and_then, unwrap_or, List, [], ◌∷◌, ◌++◌, eqb, ltb, length, drop}
 use Rattle.command.specs.declared.Command.TheVariants.{Unknown}
 use Rattle.command.specs.declared.request.Request.{Request}
 use Rattle.command.specs.Request.{Ask, plain, script, turn, turns, view, chart, mark, mark_own, help, script_word, turn_word, turns_word, view_word, chart_word, mark_word, help_word, asked, count_in, over}
@@ -47,7 +47,7 @@ turn_line l = option_and_then (λ p. cond (ended p.1) (Some (turn p.0)) None) (r
 
 -- behind `mark`
 unfoldable pub mark_front : List ℕ → List ℕ
-mark_front l = unwrap_or (option_map (λ b. b.0 ++ bytes_of (hex_bytes b.1)) (hex_bytes l)) []
+mark_front l = unwrap_or (option_map (λ b. b.0 ++ bytes_of (hex_bytes b.1)) (hex_bytes l)) (bytes_of (hex_bytes (drop 1 l)))
 
 unfoldable pub mark_line : List ℕ → Option Ask
 mark_line l =
