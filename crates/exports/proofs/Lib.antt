@@ -7,3 +7,4 @@ pub mod Pairs
 pub mod Exchanged
 pub mod Ahead
 pub mod Class
+pub mod Marks

@@ -2,25 +2,34 @@
 -- Assumes nothing.
 use Prim.Native.Nat.{ℕ, zero, suc, ◌+◌, ◌-◌, ◌*◌, ◌≤◌, ◌<◌, ◌/◌}
 use mathlib.Core.Bool.{Bool, true, false, ◌&&◌, not}
+use mir.Val.{bool_byte}
 use mathlib.Core.List.{List, [], ◌∷◌, ◌++◌}
 use mathlib.Core.Path.{◌≡◌, refl, sym, ap, ◌∙◌, subst}
 use native.Mathlib.Omega.{arith}
 use lib.Dec.{eqb, leb}
 use lib.ListN.{length, get_or, take, drop}
 use borrow.Author.Tests.{lt-leb}
-use Rattle.exports.specs.declared.replay.Replayed.{Replayed}
-use Rattle.exports.specs.declared.replay.Tried.{Tried}
+use Rattle.std.proofs.Common.{Ok, Err}
+use Rattle.state.specs.declared.State.{State as Record}
+use Rattle.state.specs.declared.refusal.Refusal.{Refusal}
+use Rattle.state.specs.declared.refusal.Refusal.TheVariants.{BadOperand}
+use Rattle.state.specs.Refusal.{number}
+use Rattle.state.specs.Model.Access.{start_record}
+use Rattle.state.proofs.Refused.{not_none}
+use Rattle.step.specs.Model.Moves.{Run, run_of}
+use Rattle.exports.specs.Model.Answers.{small_number}
+use Rattle.exports.proofs.Replayed.{ends-state}
 use Rattle.exports.specs.Replay.{replay, whole}
 use Rattle.exports.specs.Words.{moves_in}
 use Rattle.exports.specs.Independent.{independent_refusal, independent_answer}
-use Rattle.exports.specs.Model.Replayed.{Replays, tried_of}
+use Rattle.exports.specs.Model.Replayed.{Reached, Replays}
 use Rattle.exports.specs.Model.Made.{made_by, move_from, made_independent}
-use Rattle.exports.proofs.Tried.{later_first, none_first}
+use Rattle.exports.proofs.Tried.{later_first}
 use Rattle.exports.proofs.Touched.{made_one, replay_cons, replay-accepted}
 use Rattle.state.specs.Association.{encode}
 use Rattle.touch.specs.Association.{touch_shown}
 use Rattle.independence.specs.Exchange.{independent, neighbours, may_exchange}
-use Rattle.reference.specs.Lists.{at, in_range}
+use Rattle.reference.specs.Lists.{at, if_zero, in_range}
 use Rattle.reference.specs.State.{State}
 use Rattle.reference.specs.Start.{Config, config_cause, start}
 use Rattle.reference.specs.Step.{Move, move_of, next, run}
@@ -83,35 +92,43 @@ outside lo hi k h = rw (lt-leb k hi h) (go (leb lo k))
     go true = refl
     go false = refl
 
-module _ (c : Config) (bytes : List ℕ) (k : ℕ) (r : Tried) (e : r ≡ tried_of c bytes) where
-  refusal_is : r.refusal ≡ (tried_of c bytes).refusal
-  refusal_is = ap (λ (x : Tried). x.refusal) e
+pub bit_is : (b : Bool) → bool_byte b ≡ one_if b
+bit_is true = refl
+bit_is false = refl
 
-  answer_of : (n : ℕ) → independent_refusal c bytes k ≡ n → (n ≡ 0 → ⊥) → 200 + n ≡ independent_answer c bytes k
-  unfolding independent_answer
-  answer_of zero z h = absurd (h refl)
-  answer_of (suc n) z h = rw z
+module _ (c : Config) (bytes : List ℕ) (k : ℕ) where
+  answer_of : (e : Refusal) → number e ≡ independent_refusal c bytes k → small_number (Err e) ≡ independent_answer c bytes k
+  unfolding independent_answer small_number
+  answer_of e n = rw (← n) (by (number e) (not_none e))
+    where
+      by : (n : ℕ) → (n ≡ 0 → ⊥) → 200 + n ≡ if_zero n (one_if (may_exchange c (moves_in bytes) k)) (200 + n)
+      by zero z = absurd (z refl)
+      by (suc n) z = refl
 
-  pub moves-refused : (r.refusal ≡ 0 → ⊥) → 200 + r.refusal ≡ independent_answer c bytes k
-  unfolding independent_refusal
-  moves-refused h = answer_of r.refusal (later_first (config_cause c) (whole c bytes).refusal _ r.refusal refusal_is h) h
+  pub moves-refused : (e : Refusal) → Replays c bytes (Err e) → small_number (Err e) ≡ independent_answer c bytes k
+  unfolding Replays independent_refusal
+  moves-refused e h = answer_of e (sym (later_first (config_cause c) (whole c bytes).refusal _ (number e) h (not_none e)))
 
-  module _ (free : r.refusal ≡ 0) where
-    pub right : config_cause c ≡ 0
-    right = (none_first (config_cause c) (whole c bytes).refusal (sym refusal_is ∙ free)).0
+  module _ (s : Record) (h : Replays c bytes (Ok s)) where
+    reached : Reached c bytes s
+    unfolding Replays
+    reached = h
+
+    right : config_cause c ≡ 0
+    right = reached.right
 
     accepts : (whole c bytes).refusal ≡ 0
-    accepts = (none_first (config_cause c) (whole c bytes).refusal (sym refusal_is ∙ free)).1
+    accepts = reached.refusal
 
-    nowhere : neighbours (moves_in bytes) k ≡ false → 203 ≡ independent_answer c bytes k
-    unfolding independent_refusal
-    nowhere z = answer_of 3 (rw (right, accepts, z)) (omega arith)
+    nowhere : neighbours (moves_in bytes) k ≡ false → small_number (Err BadOperand) ≡ independent_answer c bytes k
+    unfolding independent_refusal number
+    nowhere z = answer_of BadOperand (rw (right, accepts, z))
 
-    pub no_place : k ≡ 0 → 203 ≡ independent_answer c bytes k
+    pub no_place : k ≡ 0 → small_number (Err BadOperand) ≡ independent_answer c bytes k
     no_place z = nowhere (ap (in_range 1 (length (moves_in bytes) - 1)) z)
 
     module _ (some : k ≡ 0 → ⊥) where
-      pub past_end : length bytes / 3 ≤ k → 203 ≡ independent_answer c bytes k
+      pub past_end : length bytes / 3 ≤ k → small_number (Err BadOperand) ≡ independent_answer c bytes k
       past_end h = nowhere (outside 1 (length (moves_in bytes) - 1) k (omega (arith, length-moves (length bytes / 3) bytes)))
 
       module _ (fits : k < length bytes / 3) where
@@ -155,13 +172,14 @@ module _ (c : Config) (bytes : List ℕ) (k : ℕ) (r : Tried) (e : r ≡ tried_
         unfolding independent_refusal
         none-refused = rw (right, accepts, there)
 
-        pub answered : (before : Replayed) → Replays c (take (3 * i) bytes) before → (b : Bool) →
-            b ≡ made_independent before.state (move_from bytes (3 * i)) (move_from bytes (3 * i + 3)) → one_if b ≡ independent_answer c bytes k
-        unfolding independent_answer
-        answered before f b z =
-            let reached : before.state ≡ encode here = f.state ∙ ap encode (front i (start c) 0 bytes accepts (omega arith)) in
+        pub answered : (r : Run) → r ≡ run_of (start_record c.P c.T c.M c.B c.stealing) (take (3 * i) bytes) → (b : Bool) →
+            b ≡ made_independent r.state (move_from bytes (3 * i)) (move_from bytes (3 * i + 3)) → small_number (Ok (one_if b)) ≡ independent_answer c bytes k
+        unfolding independent_answer small_number
+        answered r ran b z =
+            let there : r.state ≡ encode here =
+            ends-state c right (take (3 * i) bytes) _ refl r ran ∙ ap encode (front i (start c) 0 bytes accepts (omega arith)) in
             let second : 3 * i + 3 ≡ 3 * (i + 1) = omega arith in
             let test : b ≡ may_exchange c (moves_in bytes) k =
-            z ∙ (λ x. made_independent (reached x) (move_at bytes i) (move_from bytes (second x))) ∙
+            z ∙ (λ x. made_independent (there x) (move_at bytes i) (move_from bytes (second x))) ∙
             made-is c right (moves i bytes) split.0 (move_at bytes i) (move_at bytes (i + 1)) split.1 split.2 ∙ sym may-is in
             ap one_if test ∙ rw none-refused

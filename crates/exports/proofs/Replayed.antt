@@ -5,17 +5,29 @@ use mathlib.Core.List.{List, [], ◌∷◌}
 use mathlib.Core.Path.{◌≡◌, refl, sym, ap, ◌∙◌}
 use native.Mathlib.Omega.{arith}
 use native.Mathlib.Numerals.{add-one}
+use lib.Dec.{eqb}
 use lib.ListN.{length, get_or, drop, length-drop}
+use borrow.Author.Tests.{eqb-true, eqb-false}
+use mathlib.Core.Bool.{Bool, true, false}
+use Rattle.std.proofs.Common.{Ok, Err}
 use lib.Seq.{drop-cons}
-use Rattle.exports.specs.Replay.{Replay, found, replay, whole}
+use Rattle.exports.specs.Replay.{Replay, found, replay, whole, replay_place}
 use Rattle.exports.specs.Model.Replayed.{Replays}
 use Rattle.state.specs.declared.State.{State as Record}
+use Rattle.state.specs.declared.Session.{Session}
+use Rattle.state.specs.declared.refusal.Refusal.{Refusal}
+use Rattle.state.specs.declared.refusal.Refusal.TheVariants.{BadOperand}
+use Rattle.state.specs.Refusal.{number}
+use Rattle.state.specs.Record.{zero_session}
+use Rattle.state.specs.Allowed.{Allowed}
+use Rattle.state.proofs.Refused.{not_none}
+use Rattle.state.proofs.Started.{start-shown}
+use Rattle.session.specs.Contract.{Answer, answer_of, started}
+use Rattle.session.proofs.Answers.{or_first}
 use Rattle.state.specs.Association.{encode}
 use Rattle.state.specs.Model.Access.{start_record}
 use Rattle.shown.proofs.Reached.{reached-allowed}
-use Rattle.step.specs.declared.Moved.{Moved}
-use Rattle.step.specs.declared.Run.{Run}
-use Rattle.step.specs.Model.Moves.{moved_of, moved_at, run_of, counted_of}
+use Rattle.step.specs.Model.Moves.{Moved, Run, moved_of, moved_at, run_of, counted_of}
 use Rattle.step.proofs.InPlace.{Ends, run_ends}
 use Rattle.reference.specs.Lists.{if_zero}
 use Rattle.reference.specs.State.{State}
@@ -78,6 +90,13 @@ replay-end s i (p ∷ l) z = absurd (omega arith)
 
 -- ---- the code's replay, after i moves
 
+-- the number and the place of the first refusal, and the state before it or after all
+pub record Finds (c : Config) (j : List ℕ) (n k : ℕ) (s : Record) : Type 0 where
+  pub refusal : n ≡ (whole c j).refusal
+  pub place : k ≡ (whole c j).place
+  pub state : s ≡ encode (whole c j).state
+  pub allowed : Allowed (whole c j).state
+
 pub record Going (c : Config) (j : List ℕ) (i : ℕ) (s : Record) : Type 0 where
   pub on : session.Going c j i s
   pub left : whole c j ≡ replay (run (start c) (moves i j)) i (drop (3 * i) j)
@@ -93,7 +112,7 @@ module _ (c : Config) (right : config_cause c ≡ 0) (j : List ℕ) where
     here = run (start c) (moves i j)
 
     -- what is found where the bytes from i on give it
-    finds : (n k : ℕ) → replay here i (drop (3 * i) j) ≡ found n k here → Replays c j (record { refusal = n; place = k; state = s })
+    finds : (n k : ℕ) → replay here i (drop (3 * i) j) ≡ found n k here → Finds c j n k s
     finds n k e =
         let w : whole c j ≡ found n k here = g.left ∙ e in
         record {
@@ -120,13 +139,13 @@ module _ (c : Config) (right : config_cause c ≡ 0) (j : List ℕ) where
             most = omega (arith, (legal here (move_at j i) n).room, applied-is c (moves i j), length-moves i j);
           }
 
-      pub going_stop : (r.refusal ≡ 0 → ⊥) → Replays c j (record { refusal = r.refusal; place = i + 1; state = s })
+      pub going_stop : (r.refusal ≡ 0 → ⊥) → Finds c j r.refusal (i + 1) s
       going_stop z = finds r.refusal (i + 1) (replay-refused here i j fits (λ x. z (caused ∙ x)) ∙ ap (λ (n : ℕ). found n (i + 1) here) (sym caused))
 
-    pub going_over : (length j % 3 ≡ 0 → ⊥) → i ≡ length j / 3 → Replays c j (record { refusal = 3; place = i + 1; state = s })
+    pub going_over : (length j % 3 ≡ 0 → ⊥) → i ≡ length j / 3 → Finds c j 3 (i + 1) s
     going_over z e = finds 3 (i + 1) (replay-over here i (drop (3 * i) j) (λ x. z (omega (arith, length-drop (3 * i) j))) (omega (arith, length-drop (3 * i) j)))
 
-    pub going_end : length j % 3 ≡ 0 → i ≡ length j / 3 → Replays c j (record { refusal = 0; place = 0; state = s })
+    pub going_end : length j % 3 ≡ 0 → i ≡ length j / 3 → Finds c j 0 0 s
     going_end z e = finds 0 0 (replay-end here i (drop (3 * i) j) (omega (arith, length-drop (3 * i) j)))
 
 -- ---- the code's replay, as a whole
@@ -143,16 +162,70 @@ module _ (c : Config) (right : config_cause c ≡ 0) (j : List ℕ) where
     ends : Ends j Keeps (length j / 3) more r (counted_of s j [])
     ends = rw ran (run_ends j Keeps (length j / 3) more (length j / 3) 0 s [] (going_start c right j s e) (omega arith))
 
-    pub ends-most : r.made ≤ 4000
+    ends-most : r.made ≤ 4000
     ends-most = ends.reached.most
 
-    pub ends-refused : (r.refusal ≡ 0 → ⊥) → Replays c j (record { refusal = r.refusal; place = r.made + 1; state = r.state })
+    ends-refused : (r.refusal ≡ 0 → ⊥) → Finds c j r.refusal (r.made + 1) r.state
     ends-refused z =
         let l = ends.part z in
         rw (ends.cause z) (going_stop c right j r.made r.state ends.reached _ refl (omega arith) (λ q. z (ends.cause z ∙ q)))
 
-    pub ends-over : r.refusal ≡ 0 → (length j % 3 ≡ 0 → ⊥) → Replays c j (record { refusal = 3; place = r.made + 1; state = r.state })
+    ends-over : r.refusal ≡ 0 → (length j % 3 ≡ 0 → ⊥) → Finds c j 3 (r.made + 1) r.state
     ends-over z h = going_over c right j r.made r.state ends.reached h (ends.whole z)
 
-    pub ends-all : r.refusal ≡ 0 → length j % 3 ≡ 0 → Replays c j (record { refusal = 0; place = 0; state = r.state })
+    ends-all : r.refusal ≡ 0 → length j % 3 ≡ 0 → Finds c j 0 0 r.state
     ends-all z h = going_end c right j r.made r.state ends.reached h (ends.whole z)
+
+    -- the state alone
+    pub ends-state : r.state ≡ encode (whole c j).state
+    ends-state = by (eqb r.refusal 0) (eqb (length j % 3) 0) refl refl
+      where
+        by : (p q : Bool) → eqb r.refusal 0 ≡ p → eqb (length j % 3) 0 ≡ q → r.state ≡ encode (whole c j).state
+        by false q e f = (ends-refused (eqb-false r.refusal 0 e)).state
+        by true false e f = (ends-over (eqb-true r.refusal 0 e) (eqb-false (length j % 3) 0 f)).state
+        by true true e f = (ends-all (eqb-true r.refusal 0 e) (eqb-true (length j % 3) 0 f)).state
+
+-- ---- what the code answers, and the place that it writes
+
+module _ (c : Config) (j : List ℕ) where
+  pub table-refused : (e : Refusal) → answer_of zero_session (Err e) ≡ started c → Replays c j (Err e) × (0 ≡ replay_place c j)
+  unfolding answer_of started Replays replay_place
+  table-refused e h =
+      let n : number e ≡ config_cause c = ap (λ (a : Answer). a.refusal) h in (or_first (number e) (config_cause c) _ n (not_none e), rw (← n) (by (number e) (not_none e)))
+    where
+      by : (n : ℕ) → (n ≡ 0 → ⊥) → 0 ≡ if_zero n (whole c j).place 0
+      by zero z = absurd (z refl)
+      by (suc n) z = refl
+
+  module _ (b : Session) (h : answer_of zero_session (Ok b) ≡ started c) where
+    right : config_cause c ≡ 0
+    unfolding answer_of started
+    right = sym (ap (λ (a : Answer). a.refusal) h)
+
+    begins : b.state ≡ start_record c.P c.T c.M c.B c.stealing
+    unfolding answer_of started
+    begins = ap (λ (a : Answer). a.session.state) h ∙ rw right (sym (start-shown c right))
+
+    place_is : (k : ℕ) → k ≡ (whole c j).place → k ≡ replay_place c j
+    unfolding replay_place
+    place_is k e = rw right e
+
+    module _ (r : Run) (ran : r ≡ run_of b.state j) where
+      pub most : r.made ≤ 4000
+      most = ends-most c right j b.state begins r ran
+
+      pub move-refused : (e : Refusal) → r.refusal ≡ number e → Replays c j (Err e) × (r.made + 1 ≡ replay_place c j)
+      unfolding Replays
+      move-refused e z =
+          let f = ends-refused c right j b.state begins r ran (λ x. not_none e (sym z ∙ x)) in (rw right (sym z ∙ f.refusal), place_is _ f.place)
+
+      module _ (none : r.refusal ≡ 0) where
+        pub over : (length j % 3 ≡ 0 → ⊥) → Replays c j (Err BadOperand) × (r.made + 1 ≡ replay_place c j)
+        unfolding Replays number
+        over z = let f = ends-over c right j b.state begins r ran none z in (rw right f.refusal, place_is _ f.place)
+
+        pub all-made : length j % 3 ≡ 0 → Replays c j (Ok r.state) × (0 ≡ replay_place c j)
+        unfolding Replays
+        all-made z =
+            let f = ends-all c right j b.state begins r ran none z in
+            (record { right = right; refusal = sym f.refusal; state = f.state; allowed = f.allowed }, place_is 0 f.place)

@@ -5,22 +5,26 @@ use mathlib.Core.Bool.{true}
 use mathlib.Core.List.{List, [], ◌∷◌, ◌++◌}
 use mathlib.Core.Path.{◌≡◌, refl, sym, ap, ◌∙◌, subst}
 use native.Mathlib.Omega.{arith}
-use lib.ListN.{length, get_or, set, take, drop}
+use lib.ListN.{length, set, take, drop}
 use lib.Seq.{sets-eq}
 use borrow.Author.Tests.{eq-eqb, lt-ltb, le-ltb}
-use Rattle.exports.specs.declared.replay.Tried.{Tried}
-use Rattle.exports.specs.Replay.{Replay, found, replay, whole, replay_place}
+use Rattle.exports.specs.Replay.{Replay, found, replay, whole}
 use Rattle.exports.specs.Words.{moves_in, words_of, words_number, words_written}
-use Rattle.exports.specs.Model.Replayed.{tried_of}
+use Rattle.exports.specs.Model.Replayed.{Reached, Replays}
 use Rattle.exports.specs.Model.Made.{made_by, made_after, made_words}
-use Rattle.exports.proofs.Tried.{later_first, none_first}
+use Rattle.exports.proofs.Tried.{later_first}
+use Rattle.std.proofs.Common.{Ok, Err}
+use Rattle.state.specs.declared.refusal.Refusal.{Refusal}
+use Rattle.state.specs.declared.refusal.Refusal.TheVariants.{TooShort}
+use Rattle.state.specs.Refusal.{number}
+use Rattle.state.proofs.Refused.{not_none}
 use Rattle.state.specs.declared.State.{State as Record}
 use Rattle.state.specs.Association.{encode}
 use Rattle.state.specs.Model.Access.{start_record}
 use Rattle.state.proofs.Started.{start-shown}
-use Rattle.touch.specs.declared.Made.{Made}
+use Rattle.touch.specs.declared.Touch as code
 use Rattle.touch.specs.Association.{touch_shown, touch_bytes}
-use Rattle.touch.specs.Model.Made.{made_of}
+use Rattle.touch.specs.Model.Made.{Made}
 use Rattle.touch.proofs.Agrees.{touch-back}
 use Rattle.reference.specs.Lists.{if_zero, with_front}
 use Rattle.reference.specs.State.{State}
@@ -79,16 +83,15 @@ module _ (s : Record) (j w₀ : List ℕ) where
     pub going_end : i ≡ length j / 3 → w ≡ with_front w₀ (made_words s (moves_in j))
     going_end e = g.words ∙ ap (λ (n : ℕ). with_front w₀ (made_words s (moves n j))) e
 
-    pub going_more : (t : Made) → t ≡ made_of r (get_or j (3 * i) 0) (get_or j (3 * i + 1) 0) (get_or j (3 * i + 2) 0) →
-        (w' : List ℕ) → w' ≡ take (4 * i) w ++ touch_bytes (touch_shown t.touch) ++ drop (4 * i + 4) w → Going s j w₀ (i + 1) t.state w'
-    going_more t e w' f =
+    pub going_more : (r' : Record) → r' ≡ (made_by r (move_at j i)).state → (t : code.Touch) → t ≡ (made_by r (move_at j i)).touch →
+        (w' : List ℕ) → w' ≡ take (4 * i) w ++ touch_bytes (touch_shown t) ++ drop (4 * i + 4) w → Going s j w₀ (i + 1) r' w'
+    going_more r' e t h w' f =
         let a : Move = move_at j i in
         let ms : List Move = moves i j in
-        let made : t ≡ made_by (made_after s ms) a = e ∙ ap (λ (x : Record). made_by x a) g.state in
         record {
-          state = ap (λ (x : Made). x.state) made ∙ sym (after_snoc s ms a) ∙ ap (made_after s) (sym (moves_more i j));
+          state = e ∙ ap (λ (x : Record). (made_by x a).state) g.state ∙ sym (after_snoc s ms a) ∙ ap (made_after s) (sym (moves_more i j));
           words =
-              f ∙ (λ k. take (4 * i) (g.words k) ++ touch_bytes (touch_shown (made k).touch) ++ drop (4 * i + 4) (g.words k)) ∙
+              f ∙ (λ k. take (4 * i) (g.words k) ++ touch_bytes (touch_shown ((h ∙ ap (λ (x : Record). (made_by x a).touch) g.state) k)) ++ drop (4 * i + 4) (g.words k)) ∙
               with_front_more w₀ (made_words s ms) (touch_bytes (touch_shown (made_by (made_after s ms) a).touch)) (4 * i) long ∙
               ap (with_front w₀) (sym (words_snoc s ms a) ∙ ap (made_words s) (sym (moves_more i j)));
         }
@@ -149,50 +152,43 @@ replay-accepted s i (p ∷ a ∷ o ∷ rest) z =
 
 -- ---- what the exported function answers
 
--- number, place, and the buffer afterwards
-pub record Answers (c : Config) (bytes lent : List ℕ) (n k : ℕ) (after : List ℕ) : Type 0 where
-  pub number : n ≡ words_number c bytes (length lent)
-  pub words : after ≡ words_written c bytes lent
-  pub place : k ≡ replay_place c bytes
-
-module _ (c : Config) (bytes buffer : List ℕ) (r : Tried) (e : r ≡ tried_of c bytes) where
-  place_is : r.place ≡ replay_place c bytes
-  place_is = ap (λ (x : Tried). x.place) e
-
+module _ (c : Config) (bytes buffer : List ℕ) where
   -- refused, the buffer stays
-  kept : (n : ℕ) → n ≡ words_number c bytes (length buffer) → (n ≡ 0 → ⊥) → Answers c bytes buffer n r.place buffer
+  kept : (e : Refusal) → number e ≡ words_number c bytes (length buffer) → (number e ≡ words_number c bytes (length buffer)) × (buffer ≡ words_written c bytes buffer)
   unfolding words_written
-  kept zero z h = absurd (h refl)
-  kept (suc n) z h = record { number = z; words = rw (← z); place = place_is }
+  kept e n = (n, rw (← n) (by (number e) (not_none e)))
+    where
+      by : (n : ℕ) → (n ≡ 0 → ⊥) → buffer ≡ if_zero n (with_front buffer (words_of (start c) (moves_in bytes))) buffer
+      by zero z = absurd (z refl)
+      by (suc n) z = refl
 
-  pub bad_moves : (r.refusal ≡ 0 → ⊥) → Answers c bytes buffer r.refusal r.place buffer
-  unfolding words_number
-  bad_moves h = kept r.refusal (sym (later_first (config_cause c) (whole c bytes).refusal _ r.refusal (ap (λ (x : Tried). x.refusal) e) h)) h
+  pub bad_moves : (e : Refusal) → Replays c bytes (Err e) → (number e ≡ words_number c bytes (length buffer)) × (buffer ≡ words_written c bytes buffer)
+  unfolding Replays words_number
+  bad_moves e h = kept e (sym (later_first (config_cause c) (whole c bytes).refusal _ (number e) h (not_none e)))
 
-  module _ (free : r.refusal ≡ 0) where
-    right : config_cause c ≡ 0
-    right = (none_first (config_cause c) (whole c bytes).refusal (sym (ap (λ (x : Tried). x.refusal) e) ∙ free)).0
+  module _ (s : Record) (h : Replays c bytes (Ok s)) where
+    reached : Reached c bytes s
+    unfolding Replays
+    reached = h
 
-    accepts : (whole c bytes).refusal ≡ 0
-    accepts = (none_first (config_cause c) (whole c bytes).refusal (sym (ap (λ (x : Tried). x.refusal) e) ∙ free)).1
-
-    pub short-buffer : length buffer / 4 < length bytes / 3 → Answers c bytes buffer 10 r.place buffer
-    unfolding words_number
-    short-buffer h =
+    pub short-buffer : length buffer / 4 < length bytes / 3 → (10 ≡ words_number c bytes (length buffer)) × (buffer ≡ words_written c bytes buffer)
+    unfolding words_number number
+    short-buffer l =
         let short = lt-ltb (length buffer) (4 * length (moves_in bytes)) (omega (arith, length-moves (length bytes / 3) bytes)) in
-        kept 10 (rw (right, accepts, short)) (λ z. omega arith)
+        kept TooShort (rw (reached.right, reached.refusal, short))
 
     module _ (room : length bytes / 3 ≤ length buffer / 4) where
       none-refused : 0 ≡ words_number c bytes (length buffer)
       unfolding words_number
       none-refused =
           let fits = le-ltb (length buffer) (4 * length (moves_in bytes)) (omega (arith, length-moves (length bytes / 3) bytes)) in
-          rw (right, accepts, fits)
+          rw (reached.right, reached.refusal, fits)
 
-      pub all-written : (s : Record) → s ≡ start_record c.P c.T c.M c.B c.stealing →
-          (out : List ℕ) → out ≡ with_front buffer (made_words s (moves_in bytes)) → Answers c bytes buffer 0 r.place out
+      pub all-written : (r : Record) → r ≡ start_record c.P c.T c.M c.B c.stealing →
+          (out : List ℕ) → out ≡ with_front buffer (made_words r (moves_in bytes)) → (0 ≡ words_number c bytes (length buffer)) × (out ≡ words_written c bytes buffer)
       unfolding words_written run accepted
-      all-written s z out w =
-          let words : made_words s (moves_in bytes) ≡ words_of (start c) (moves_in bytes) =
-          ap (λ (x : Record). made_words x (moves_in bytes)) (z ∙ start-shown c right) ∙ words_made c right (moves_in bytes) [] refl (replay-accepted (start c) 0 bytes accepts) in
-          record { number = none-refused; words = w ∙ ap (with_front buffer) words ∙ rw (← none-refused); place = place_is }
+      all-written r z out w =
+          let words : made_words r (moves_in bytes) ≡ words_of (start c) (moves_in bytes) =
+          ap (λ (x : Record). made_words x (moves_in bytes)) (z ∙ start-shown c reached.right) ∙
+          words_made c reached.right (moves_in bytes) [] refl (replay-accepted (start c) 0 bytes reached.refusal) in
+          (none-refused, w ∙ ap (with_front buffer) words ∙ rw (← none-refused))

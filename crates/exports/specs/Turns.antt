@@ -1,10 +1,8 @@
 -- What turns ahead of a thread in a picture answers, as one number.
 -- Assumes nothing.
 use Rattle.std.specs.Prelude.{ℕ, ◌+◌, not, List}
-use Rattle.picture.specs.declared.answer.Ahead.{Ahead}
-use Rattle.picture.specs.declared.answer.Ahead.TheVariants.{Turns, NotWaiting, Refused}
 use Rattle.picture.specs.Picture.{byte, fields, read_refusal}
-use Rattle.picture.specs.Turns.{turns_ahead}
+use Rattle.picture.specs.Turns.{Ahead, Turns, NotWaiting, Refused, turns_ahead}
 use Rattle.state.specs.Association.{decode}
 use Rattle.reference.specs.Refusal.{bad_operand, refuse}
 use Rattle.reference.specs.Lists.{if_zero, in_range}

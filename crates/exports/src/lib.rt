@@ -9,28 +9,24 @@ ghost use Rattle.exports.specs.Replay.{replay_refusal, replay_place, replay_buff
 ghost use Rattle.exports.specs.Words.{words_number, words_written};
 ghost use Rattle.exports.specs.Independent.{independent_answer};
 ghost use Rattle.exports.specs.Turns.{ahead_answer};
+ghost use Rattle.exports.specs.Model.Answers.{small_number};
 ghost use Rattle.exports.specs.Class.{class_number, class_answered, class_pictured};
 
 mod neighbours;
+mod numbers;
 mod replay;
 mod sessions;
 mod words;
 
-use crate::neighbours::independent;
-use crate::replay::{replay, try_moves};
+use crate::neighbours::may_exchange;
+use crate::numbers::{small, wide};
+use crate::replay::replay;
 use crate::words::put_words;
-use picture::answer::Ahead;
 use state::State;
-use state::refusal::Refusal;
+use state::refusal::{Refusal, outcome};
 
 // Turns ahead: a thread that does not wait.
 const NOT_WAITING: u8 = 100;
-
-// What a refusal's number is added to where small numbers are answers.
-const REFUSED: u8 = 200;
-
-// What a refusal's number is added to where a mark is asked for.
-const MARK_REFUSED: u16 = 20000;
 
 // Replays moves, three bytes each, from a start table and writes the picture of the state that they lead to: 1, the number of the first refused move
 // with its place, counted from 1, or 10, else 0. Refused, no byte of the picture is written. Where no move is refused the place is 0.
@@ -68,20 +64,10 @@ pub extern "C" fn humdayeg_replay_with(
     ensures written { picture.new ≡ replay_buffer (table p t m b stealing) moves.now picture.old }
     ensures place { place.new ≡ replay_place (table p t m b stealing) moves.now }
 {
-    *place = 0;
-    let started = session::start(p, t, m, b, stealing);
-    let bad = started.refusal;
-    if bad != 0 {
-        return bad;
+    match replay(p, t, m, b, stealing, moves, place) {
+        Ok(state) => outcome(picture::write(state, picture)),
+        Err(refusal) => refusal.number(),
     }
-    let found = replay(p, t, m, b, stealing, moves);
-    *place = found.place;
-    let refused = found.refusal;
-    if refused != 0 {
-        return refused;
-    }
-    let state = found.state;
-    picture::write(state, picture)
 }
 
 // Replays moves as humdayeg_replay_with does, with the same places, and writes four bytes for each: kind and number of the word that it read, then of the
@@ -101,18 +87,14 @@ pub extern "C" fn humdayeg_words(
     ensures written { words.new ≡ words_written (table p t m b stealing) moves.now words.old }
     ensures place { place.new ≡ replay_place (table p t m b stealing) moves.now }
 {
-    let tried = try_moves(p, t, m, b, stealing, moves);
-    *place = tried.place;
-    let number = tried.refusal;
-    if number != 0 {
-        return number;
+    match replay(p, t, m, b, stealing, moves, place) {
+        Err(refusal) => refusal.number(),
+        Ok(_) if words.len() / 4 < moves.len() / 3 => Refusal::TooShort.number(),
+        Ok(_) => {
+            put_words(State::start(p, t, m, b, stealing), moves, words);
+            0
+        }
     }
-    if words.len() / 4 < moves.len() / 3 {
-        return Refusal::TOO_SHORT;
-    }
-    let s = State::start(p, t, m, b, stealing);
-    put_words(s, moves, words);
-    0
 }
 
 // Replays moves as humdayeg_replay_with does, with the same places, and says whether the moves at places `first` and `first` + 1, counted from 1, may change
@@ -131,23 +113,7 @@ pub extern "C" fn humdayeg_independent(
     ensures answer { result ≡ independent_answer (table p t m b stealing) moves.now first }
     ensures place { place.new ≡ replay_place (table p t m b stealing) moves.now }
 {
-    let tried = try_moves(p, t, m, b, stealing, moves);
-    *place = tried.place;
-    let number = tried.refusal;
-    if number != 0 {
-        return REFUSED + number;
-    }
-    let k = first as usize;
-    if k == 0 {
-        return REFUSED + Refusal::BAD_OPERAND;
-    }
-    if moves.len() / 3 <= k {
-        return REFUSED + Refusal::BAD_OPERAND;
-    }
-    let from = 3 * (k - 1);
-    let before = replay(p, t, m, b, stealing, &moves[..from]);
-    let s = before.state;
-    if independent(s, moves, from) { 1 } else { 0 }
+    small(may_exchange(p, t, m, b, stealing, moves, first, place))
 }
 
 // The number that reading a picture gets: 11, 12, 13 or 14, or 0.
@@ -155,8 +121,16 @@ pub extern "C" fn humdayeg_independent(
 pub extern "C" fn humdayeg_read(picture: &[u8]) -> u8
     ensures { result ≡ read_refusal picture.now }
 {
-    let found = picture::read(picture);
-    found.refusal
+    outcome(picture::read(picture))
+}
+
+// How many threads get a thread's mutex before it, in the state that a picture shows; 100 where it is not waiting.
+fn turns_ahead(picture: &[u8], thread: u8) -> Result<u8, Refusal>
+    ensures { small_number result ≡ ahead_answer picture.now thread }
+{
+    let state = picture::read(picture)?;
+    let turns = picture::ahead(state, thread)?;
+    Ok(turns.unwrap_or(NOT_WAITING))
 }
 
 // Turns ahead of a thread in a picture: 0 to 32; 100 where it is not waiting; 200 plus the number of a refusal, the picture's or 3.
@@ -164,18 +138,7 @@ pub extern "C" fn humdayeg_read(picture: &[u8]) -> u8
 pub extern "C" fn humdayeg_ahead(picture: &[u8], thread: u8) -> u8
     ensures { result ≡ ahead_answer picture.now thread }
 {
-    let found = picture::read(picture);
-    let bad = found.refusal;
-    if bad != 0 {
-        return REFUSED + bad;
-    }
-    let state = found.state;
-    let answer = picture::ahead(state, thread);
-    match answer {
-        Ahead::Turns(n) => n,
-        Ahead::NotWaiting => NOT_WAITING,
-        Ahead::Refused(n) => REFUSED + n,
-    }
+    small(turns_ahead(picture, thread))
 }
 
 // A class from a start table, scripts and turns (a byte each, the processor): each turn's answer and the picture after it, accepted or not, written
@@ -215,15 +178,14 @@ pub extern "C" fn humdayeg_class_with(
     ensures answers { answers.new ≡ class_answered (table p t m b stealing) scripts.now turns.now answers.old pictures.old }
     ensures pictures { pictures.new ≡ class_pictured (table p t m b stealing) scripts.now turns.now answers.old pictures.old }
 {
-    let begun = turns::start(p, t, m, b, stealing, scripts);
-    let bad = begun.refusal;
-    if bad != 0 {
-        return bad;
+    match turns::start(p, t, m, b, stealing, scripts) {
+        Ok(session) => {
+            let mut journal = [0u8; 12000];
+            let done = turns::class(session, &mut journal, scripts, turns, answers, pictures);
+            outcome(done)
+        }
+        Err(refusal) => refusal.number(),
     }
-    let session = begun.session;
-    let mut journal = [0u8; 12000];
-    let done = turns::class(session, &mut journal, scripts, turns, answers, pictures);
-    done.refusal
 }
 
 // The mark of a candidate's picture against the machine's: 0 to 10,000 in hundredths, or 20,000 plus the number of a refusal.
@@ -231,10 +193,5 @@ pub extern "C" fn humdayeg_class_with(
 pub extern "C" fn humdayeg_mark(machine: &[u8], candidate: &[u8]) -> u16
     ensures { result ≡ answer machine.now candidate.now }
 {
-    let found = mark::mark(machine, candidate);
-    let bad = found.refusal;
-    if bad != 0 {
-        return MARK_REFUSED + bad as u16;
-    }
-    found.mark
+    wide(mark::mark(machine, candidate))
 }

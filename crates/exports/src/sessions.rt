@@ -6,6 +6,9 @@ ghost use Rattle.turns.specs.Contract.{turned, turn_journal};
 ghost use Rattle.stored.specs.Stored.{session_in};
 ghost use Rattle.stored.specs.Calls.{start_number, start_bytes, move_bytes, turn_bytes, goto_bytes, picture_number, picture_after, front_number};
 
+use crate::numbers::wide;
+use state::refusal::outcome;
+
 // Begins a session and writes its bytes: 1, 10, else 0. Refused, no byte is written.
 #[unsafe(no_mangle)]
 pub extern "C" fn humdayeg_session_start(
@@ -19,7 +22,7 @@ pub extern "C" fn humdayeg_session_start(
     ensures number { result ≡ start_number (table p t m b stealing) (length session.old) }
     ensures session { session.new ≡ start_bytes (table p t m b stealing) session.old }
 {
-    stored::start(p, t, m, b, stealing, session)
+    outcome(stored::start(p, t, m, b, stealing, session))
 }
 
 // Moves a processor: 10, 15, 16, 2, 3, 8, 4 or 5, 6, 7 or 21, else 0, with the session's bytes and the move's three in the journal written. Refused, no byte is written.
@@ -35,7 +38,7 @@ pub extern "C" fn humdayeg_session_move(
     ensures session { session.new ≡ move_bytes session.old journal.old (move_of processor action operand) }
     ensures journal { journal.new ≡ journal_after (session_in session.old) journal.old (move_of processor action operand) }
 {
-    stored::make_move(session, journal, processor, action, operand)
+    outcome(stored::make_move(session, journal, processor, action, operand))
 }
 
 // A turn of a processor by the scripts: 10, 15, 16, 19, then its move's; likewise.
@@ -50,7 +53,7 @@ pub extern "C" fn humdayeg_session_turn(
     ensures session { session.new ≡ turn_bytes session.old journal.old scripts.now processor }
     ensures journal { journal.new ≡ turn_journal (session_in session.old) journal.old scripts.now processor }
 {
-    stored::turn(session, journal, scripts, processor)
+    outcome(stored::turn(session, journal, scripts, processor))
 }
 
 // Goes to a step: 10, 15, 9, 16, else 0, with the session's bytes written. Refused, no byte is written.
@@ -59,7 +62,7 @@ pub extern "C" fn humdayeg_session_goto(session: &mut [u8], journal: &[u8], step
     ensures number { result ≡ (went (session_in session.old) journal.now step).refusal }
     ensures session { session.new ≡ goto_bytes session.old journal.now step }
 {
-    stored::goto(session, journal, step)
+    outcome(stored::goto(session, journal, step))
 }
 
 // The picture of a session's state into a buffer's front, its later bytes kept: 15, 10, else 0. Refused, no byte is written.
@@ -68,7 +71,7 @@ pub extern "C" fn humdayeg_session_picture(session: &[u8], picture: &mut [u8]) -
     ensures number { result ≡ picture_number session.now (length picture.old) }
     ensures written { picture.new ≡ picture_after session.now picture.old }
 {
-    stored::picture(session, picture)
+    outcome(stored::picture(session, picture))
 }
 
 // How many bytes at the journal's front are the standing moves: 0 to 12,000; 20,000 plus 10 or 15 where that is refused.
@@ -76,5 +79,5 @@ pub extern "C" fn humdayeg_session_picture(session: &[u8], picture: &mut [u8]) -
 pub extern "C" fn humdayeg_session_front(session: &[u8], journal: &[u8]) -> u16
     ensures { result ≡ front_number session.now journal.now }
 {
-    stored::front(session, journal)
+    wide(stored::front(session, journal))
 }

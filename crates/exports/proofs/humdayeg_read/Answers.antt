@@ -1,13 +1,8 @@
 -- `exports::humdayeg_read` meets its contract.
 -- Assumes nothing.
-use borrow.Author.Rules.{rules}
-use Rattle.picture.proofs.Numbers.{read_number}
+use mathlib.Core.Path.{◌∙◌}
+use Rattle.exports.proofs.Ahead.{read_number}
 use Rattle.exports.proofs.humdayeg_read.Goals as goal
 
--- src/lib.rt:56:9
-pub read-found-requires : goal.read-found-requires
-read-found-requires c = search rules
-
--- src/lib.rt:52:1
 pub returns : goal.returns
-returns c = read_number _ c.read-found.result c.read-found.ensures
+returns c = c.outcome.ensures ∙ read_number c.args.picture.now c.read.result c.read.ensures

@@ -1,32 +1,29 @@
 -- `exports::humdayeg_words` meets its contract.
 -- Assumes nothing.
+use mathlib.Core.Path.{◌∙◌}
 use native.Mathlib.Omega.{arith}
 use Rattle.session.specs.Contract.{table}
+use Rattle.state.specs.Refusal.{number}
 use Rattle.exports.proofs.Touched.{bad_moves, short-buffer, all-written}
 use Rattle.exports.proofs.humdayeg_words.Goals as goal
 
-pub returns-then-number-ne0 : goal.returns-then-number-ne0
-returns-then-number-ne0 c =
-    let f = c.try_moves-tried in
+pub returns-in-Err : goal.returns-in-Err
+returns-in-Err c =
     let a = c.args in
-    let k = bad_moves (table a.p a.t a.m a.b a.stealing) a.moves.now a.words.now f.result f.ensures c.if-number-ne0.true in
-    (record { number = k.number; written = k.words; place = k.place })
+    let k = bad_moves (table a.p a.t a.m a.b a.stealing) a.moves.now a.words.now c.in-Err.refusal c.in-Err.ensures.state in
+    record { number = c.number.ensures ∙ k.0; written = k.1; place = c.replay.ensures.place }
 
-pub returns-then-words-moves : goal.returns-then-words-moves
-returns-then-words-moves c =
-    let d = c in
-    let f = d.try_moves-tried in
-    let a = d.args in
-    let k = short-buffer (table a.p a.t a.m a.b a.stealing) a.moves.now a.words.now f.result f.ensures d.if-number-ne0.false c.if-words-moves.true in
-    (record { number = k.number; written = k.words; place = k.place })
+pub returns-in-Ok : goal.returns-in-Ok
+unfolding number
+returns-in-Ok c =
+    let a = c.args in
+    let k = short-buffer (table a.p a.t a.m a.b a.stealing) a.moves.now a.words.now c.in-Ok.field-0 c.in-Ok.ensures.state c.if-words-moves.true in
+    record { number = c.number-in-Ok.ensures ∙ k.0; written = k.1; place = c.replay.ensures.place }
 
-pub returns : goal.returns
-returns c =
-    let w = c in
-    let s = w in
-    let i = s in
-    let d = i in
-    let f = d.try_moves-tried in
-    let a = d.args in
-    let k = all-written (table a.p a.t a.m a.b a.stealing) a.moves.now a.words.now f.result f.ensures d.if-number-ne0.false (omega (arith, i.if-words-moves.false)) s.start-s.result s.start-s.ensures _ w.put_words.ensures in
-    (record { number = k.number; written = k.words; place = k.place })
+pub returns-in-Ok-2 : goal.returns-in-Ok-2
+returns-in-Ok-2 c =
+    let a = c.args in
+    let k =
+    all-written (table a.p a.t a.m a.b a.stealing) a.moves.now a.words.now c.in-Ok-2.field-0 c.in-Ok-2.ensures.state (omega (arith, c.if-words-moves.false)) c.start.result c.start.ensures _
+    c.put_words.ensures in
+    record { number = k.0; written = k.1; place = c.replay.ensures.place }

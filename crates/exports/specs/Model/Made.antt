@@ -2,9 +2,8 @@
 -- Assumes nothing.
 use Rattle.std.specs.Prelude.{ℕ, ◌+◌, Bool, ◌&&◌, not, List, [], ◌∷◌, ◌++◌, eqb, get_or}
 use Rattle.state.specs.declared.State.{State}
-use Rattle.touch.specs.declared.Made.{Made}
 use Rattle.touch.specs.Association.{touch_shown, touch_bytes}
-use Rattle.touch.specs.Model.Made.{made_of}
+use Rattle.touch.specs.Model.Made.{Made, made_of}
 use Rattle.reference.specs.Step.{Move, move_of}
 use Rattle.reference.specs.Touch.{apart}
 

@@ -5,8 +5,4 @@ use Rattle.exports.proofs.neighbours.independent.Goals as goal
 
 pub returns : goal.returns
 unfolding made_independent
-returns c =
-    let d = c in
-    let two = d in
-    let one = two in
-    rw (d.apart-separate.ensures, two.make-two.ensures, one.make-one.ensures)
+returns c = rw (c.apart-separate.ensures, c.make_in-two.ensures.touch, c.make_in-one.ensures.state, c.make_in-one.ensures.touch)
