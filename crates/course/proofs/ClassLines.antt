@@ -48,7 +48,7 @@ unfolding turn_lines
 next_lines p size i answers pictures h =
     let n : i * size + size - i * size ≡ size = omega arith in
     let m : (i + 1) * size ≡ i * size + size = rw (add-one, suc-mul i size) in
-    rw (written_twice, written_twice, n, m, add-one, drop-cons answers i 0 h, drop-drop size (i * size) pictures)
+    rw (written_twice, written_twice, n, m, add-one, drop-cons answers i 0 h, drop-drop size (i * size) pictures) (simp append_assoc)
 
 -- the last turn
 pub no_lines : (p q : Page) (size i : ℕ) (answers pictures : List ℕ) → length answers ≤ i → written p (turn_lines size (drop i answers) pictures) ≡ q → p ≡ q

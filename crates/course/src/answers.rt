@@ -31,13 +31,17 @@ pub struct Course<'a> {
 }
 
 // Whether a command is a start that is accepted.
+#[tactic(auto, unfolding(crate::specs::Program::starts))]
 fn begins(command: Command) -> bool
     ensures { result ≡ starts command }
 {
     match command {
         Command::Start(p, t, m, b) => session::start(p, t, m, b, 0).is_ok(),
         Command::StartWith(p, t, m, b, stealing) => session::start(p, t, m, b, stealing).is_ok(),
-        _ => false,
+        Command::Move(_, _, _) => false,
+        Command::Goto(_) => false,
+        Command::Show => false,
+        Command::Unknown => false,
     }
 }
 
@@ -115,7 +119,7 @@ impl Course<'_> {
     }
 
     // A line of the stepper: a move also names its words.
-    #[tactic(auto, unfolding(shell::specs::Answers::response, crate::specs::Program::plain_response, crate::specs::Program::response, crate::specs::Program::after))]
+    #[tactic(auto, unfolding(shell::specs::Answers::response, shell::specs::Answers::after, crate::specs::Program::starts, crate::specs::Program::plain_response, crate::specs::Program::response, crate::specs::Program::after))]
     fn plain_line(&mut self, command: Command, page: &mut Page)
         ensures self_after { context_of self.new ≡ after (context_of self.old) (plain command) }
         ensures page_after { page.new ≡ written page.old (response (context_of self.old) (plain command)) }

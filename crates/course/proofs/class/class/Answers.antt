@@ -18,7 +18,7 @@ unfolding zeros classed answer_of
 slice_bounds-answers-end c =
     let a = c.args in
     let e = sym (ap (λ (x : Answer). x.refusal) c.in-Ok.ensures.answer) in
-    let room = class-room a.session (session_sized c.well_formed.0) a.journal.now a.scripts.now a.turns.now e in
+    let room = class-room a.session (session_sized c.well_formed.1.0) a.journal.now a.scripts.now a.turns.now e in
     omega (arith, room.0, c.class.auto.answers)
 
 pub slice_bounds-turn_lines-end : goal.slice_bounds-turn_lines-end
@@ -26,7 +26,7 @@ unfolding zeros classed answer_of
 slice_bounds-turn_lines-end c =
     let a = c.args in
     let e = sym (ap (λ (x : Answer). x.refusal) c.in-Ok.ensures.answer) in
-    let room = class-room a.session (session_sized c.well_formed.0) a.journal.now a.scripts.now a.turns.now e in
+    let room = class-room a.session (session_sized c.well_formed.1.0) a.journal.now a.scripts.now a.turns.now e in
     sym (length-take-le (length a.turns.now) c.class.new.answers (omega (arith, room.0, c.class.auto.answers)))
 
 pub turn_lines-requires : goal.turn_lines-requires
@@ -34,7 +34,7 @@ unfolding zeros classed answer_of
 turn_lines-requires c =
     let a = c.args in
     let e = sym (ap (λ (x : Answer). x.refusal) c.in-Ok.ensures.answer) in
-    let room = class-room a.session (session_sized c.well_formed.0) a.journal.now a.scripts.now a.turns.now e in
+    let room = class-room a.session (session_sized c.well_formed.1.0) a.journal.now a.scripts.now a.turns.now e in
     let n = length-take-le (length a.turns.now) c.class.new.answers (omega (arith, room.0, c.class.auto.answers)) in
     rw (n, c.picture_bytes-size.ensures) (omega (arith, room.1, c.class.auto.pictures))
 
@@ -46,7 +46,7 @@ returns-in-Ok c =
     record {
       session_value = ap (λ (x : Answer). x.session) c.in-Ok.ensures.answer;
       journal_after = c.in-Ok.ensures.journal;
-      page_after = c.turn_lines.ensures ∙ ap (written a.page.now) (rw c.picture_bytes-size.ensures (class-printed a.session (session_sized c.well_formed.0) a.journal.now a.scripts.now a.turns.now _ _ e c.in-Ok.ensures.answers c.in-Ok.ensures.pictures));
+      page_after = c.turn_lines.ensures ∙ ap (written a.page.now) (rw c.picture_bytes-size.ensures (class-printed a.session (session_sized c.well_formed.1.0) a.journal.now a.scripts.now a.turns.now _ _ e c.in-Ok.ensures.answers c.in-Ok.ensures.pictures));
     }
 
 pub returns-in-Err : goal.returns-in-Err
@@ -57,5 +57,5 @@ returns-in-Err c =
     record {
       session_value = ap (λ (x : Answer). x.session) c.in-Err.ensures.answer;
       journal_after = c.in-Err.ensures.journal;
-      page_after = c.number_line.ensures ∙ ap (written a.page.now) (class-refused a.session (session_sized c.well_formed.0) a.journal.now a.scripts.now a.turns.now _ (c.number.ensures ∙ e) (λ z. not_none c.in-Err.refusal (sym c.number.ensures ∙ z)));
+      page_after = c.number_line.ensures ∙ ap (written a.page.now) (class-refused a.session (session_sized c.well_formed.1.0) a.journal.now a.scripts.now a.turns.now _ (c.number.ensures ∙ e) (λ z. not_none c.in-Err.refusal (sym c.number.ensures ∙ z)));
     }
