@@ -5,7 +5,7 @@ use mathlib.Core.Bool.{Bool, true, false, not, ◌||◌, cond}
 use mathlib.Core.Path.{◌≡◌, refl, sym, ap, ◌∙◌}
 use mathlib.Core.List.{List, [], ◌∷◌, ◌++◌}
 use lib.Dec.{lit≤, leb, ltb}
-use lib.ListN.{length, take, drop, length-append}
+use lib.ListN.{length, take, length-append}
 use lib.Seq.{take_all, length-take-le}
 use borrow.Author.Tests.{leb-true, leb-false, ltb-false, not-false}
 use Rattle.command.specs.Printing.{text, decimal, hundredths, line_feed}
@@ -47,7 +47,7 @@ use Rattle.course.specs.Answers.{move_text, zeros, class_lines, class_text, mark
 use Rattle.script.specs.Contract.{set_refusal}
 use Rattle.mark.specs.Mark.{Marked, marked, state_marked}
 use Rattle.course.proofs.Scripts.{zeros-long}
-use Rattle.course.specs.Program.{Context, plain_response, response, after, course}
+use Rattle.course.specs.Program.{Context, plain_response, response, course}
 
 number-length : (n : ℕ) → length (number n) ≤ 4
 number-length n = simp length-append (omega (arith, decimal-length n))
