@@ -1,14 +1,15 @@
 -- What a replay of the journal finds, case by case: the shape in which the code arrives at it.
 -- Assumes nothing.
-use Prim.Native.Nat.{ℕ, ◌-◌, ◌*◌, ◌≤◌, ◌<◌}
+use Prim.Native.Nat.{ℕ, ◌-◌, ◌*◌, ◌≤◌}
 use mathlib.Core.Bool.{Bool, true, false, ◌&&◌, true≢false}
 use mathlib.Core.List.{List, []}
+use Rattle.std.specs.Bool.{then_some}
 use Rattle.std.specs.Prelude.{Some, None, Ok, Err}
 use mathlib.Core.Path.{◌≡◌, refl, sym, ap, ◌∙◌, subst}
 use native.Mathlib.Omega.{arith}
 use lib.Dec.{eqb}
 use lib.ListN.{length, take}
-use borrow.Author.Tests.{le-leb, lt-leb, eq-eqb, eqb-true, ne_eqb}
+use borrow.Author.Tests.{le-leb, eq-eqb, eqb-true, ne_eqb}
 use Rattle.session.specs.declared.replay.Stages.{Stages}
 use Rattle.state.specs.declared.Session.{Session}
 use Rattle.state.specs.declared.refusal.Refusal.{Refusal}
@@ -261,29 +262,17 @@ module _ (r : Session) (size : Sized r.state) (j : List ℕ) (free : lent_refusa
     unfolding Reaches Replays matches replays
     found_none a b e = rw e
 
-    -- the standing moves are the later ones
-    module _ (x : Stages) (h : Reaches r j k r.state.applied (Some x)) where
-      pub high_same : true ≡ same.eq-value.it x.high r.state → Replays r j k (Some x.low)
-      unfolding Reaches Replays
-      high_same e = (matches-is x.high h.0 h.2 true e, h.1)
+    -- the standing moves are the later ones, or the earlier ones
+    pub high_found : (x : Stages) → Reaches r j k r.state.applied (Some x) → (b : Bool) → b ≡ same.eq-value.it x.high r.state → Replays r j k (then_some b x.low)
+    unfolding Reaches Replays
+    high_found x h true e = (matches-is x.high h.0 h.2 true e, h.1)
+    high_found x h false e = matches-is x.high h.0 h.2 false e
 
-      pub high_other : false ≡ same.eq-value.it x.high r.state → Replays r j k None
-      unfolding Reaches Replays
-      high_other e = matches-is x.high h.0 h.2 false e
-
-    -- the standing moves are the earlier ones
-    module _ (x : Stages) (h : Reaches r j r.state.applied k (Some x)) where
-      pub low_same : true ≡ same.eq-value.it x.low r.state → Replays r j k (Some x.high)
-      unfolding Reaches Replays
-      low_same e = (matches-is x.low h.0 h.1 true e, h.2)
-
-      pub low_other : false ≡ same.eq-value.it x.low r.state → Replays r j k None
-      unfolding Reaches Replays
-      low_other e = matches-is x.low h.0 h.1 false e
+    pub low_found : (x : Stages) → Reaches r j r.state.applied k (Some x) → (b : Bool) → b ≡ same.eq-value.it x.low r.state → Replays r j k (then_some b x.high)
+    unfolding Reaches Replays
+    low_found x h true e = (matches-is x.low h.0 h.1 true e, h.2)
+    low_found x h false e = matches-is x.low h.0 h.1 false e
 
 -- the farther step
 pub farther-standing : (r : Session) (k : ℕ) → k ≤ r.state.applied → r.state.applied ≡ farther r k
 farther-standing r k h = rw (le-leb k r.state.applied h)
-
-pub farther-step : (r : Session) (k : ℕ) → r.state.applied < k → k ≡ farther r k
-farther-step r k h = rw (lt-leb k r.state.applied h)

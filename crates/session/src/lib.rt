@@ -104,8 +104,7 @@ pub fn make_move(
     ensures answer { move_answer_of session result ≡ moved session journal.old (move_of p a o) }
     ensures written { journal.new ≡ journal_after session journal.old (move_of p a o) }
 {
-    let mut none = [0u16; 1];
-    test(session, journal, &mut none)?;
+    test(session, journal, &mut [0; 1])?;
     let state = session.state;
     let made = touch::make(state, p, a, o)?;
     keep_move(journal, state.applied, p, a, o);
@@ -135,8 +134,7 @@ pub fn goto(session: Session, journal: &[u8], k: usize) -> Result<Session, Refus
     if (session.kept as usize) < k {
         return Err(Refusal::NoStep);
     }
-    let mut none = [0u16; 1];
-    let state = replayed(session, journal, k, &mut none).ok_or(Refusal::BadJournal)?;
+    let state = replayed(session, journal, k, &mut [0; 1]).ok_or(Refusal::BadJournal)?;
     Ok(Session { state, ..session })
 }
 

@@ -48,14 +48,13 @@ fn reached(
     let first = State::start(state.p, state.t, state.m, session.initial, state.stealing);
     let low = part(first, journal, 0, a, calls)?;
     let high = part(low, journal, a, b, calls)?;
-    let mut none = [0u16; 1];
-    part(high, journal, b, session.kept as usize, &mut none)?;
+    part(high, journal, b, session.kept as usize, &mut [0; 1])?;
     Some(Stages { low, high })
 }
 
 // Replays the kept moves, those up to the nearer of k and the standing ones, to the farther, and the others: the state after the first k, if all are accepted and
 // the standing ones give the record. Each thread's calls up to the farther are counted.
-#[tactic(auto, using(crate::proofs::Found::found_none, crate::proofs::Found::high_same, crate::proofs::Found::high_other, crate::proofs::Found::low_same, crate::proofs::Found::low_other))]
+#[tactic(auto, using(crate::proofs::Found::found_none, crate::proofs::Found::high_found, crate::proofs::Found::low_found))]
 pub(crate) fn replayed(
     session: Session,
     journal: &[u8],
@@ -70,16 +69,8 @@ pub(crate) fn replayed(
     let n = given.applied as usize;
     if k <= n {
         let found = reached(session, journal, k, n, calls)?;
-        return if found.high == given {
-            Some(found.low)
-        } else {
-            None
-        };
+        return (found.high == given).then_some(found.low);
     }
     let found = reached(session, journal, n, k, calls)?;
-    if found.low == given {
-        Some(found.high)
-    } else {
-        None
-    }
+    (found.low == given).then_some(found.high)
 }
