@@ -42,8 +42,8 @@ fits i n size h =
 -- one turn more
 pub next_lines : (p : Page) (size i : ℕ) (answers pictures : List ℕ) → i < length answers
     → written (written (written p (decimal (get_or answers i 0) ++ line_feed)) (hex (take (i * size + size - i * size) (drop (i * size) pictures)) ++ line_feed))
-        (turn_lines size (drop (i + 1) answers) (drop ((i + 1) * size) pictures))
-      ≡ written p (turn_lines size (drop i answers) (drop (i * size) pictures))
+    (turn_lines size (drop (i + 1) answers) (drop ((i + 1) * size) pictures))
+    ≡ written p (turn_lines size (drop i answers) (drop (i * size) pictures))
 unfolding turn_lines
 next_lines p size i answers pictures h =
     let n : i * size + size - i * size ≡ size = omega arith in

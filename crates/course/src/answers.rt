@@ -125,7 +125,10 @@ impl Course<'_> {
         ensures page_after { page.new ≡ written page.old (response (context_of self.old) (plain command)) }
     {
         match (command, self.shell.session) {
-            (Command::Move(p, a, o), Some(session)) => put_moved(page, self.shell.make_move(session, p, a, o)),
+            (Command::Move(p, a, o), Some(session)) => put_moved(
+                page,
+                self.shell.make_move(session, p, a, o),
+            ),
             _ => self.stepper_line(command, page),
         }
     }
@@ -161,7 +164,12 @@ impl Course<'_> {
             (Request::Help, _) => put_help(page),
             (_, None) => page.put(b"?\n"),
             (Request::Script(k, n), Some(session)) => {
-                let set = script::set_script(session.state.t, self.scripts, k, &numbers[..n as usize]);
+                let set = script::set_script(
+                    session.state.t,
+                    self.scripts,
+                    k,
+                    &numbers[..n as usize],
+                );
                 page.number_line(outcome(set));
             }
             (Request::Turn(p), Some(session)) => {
@@ -174,7 +182,10 @@ impl Course<'_> {
             (Request::View, Some(session)) => self.view_line(session, page),
             (Request::Chart, Some(session)) => self.chart_line(session, page),
             (Request::MarkOwn(n), Some(session)) => {
-                put_mark(page, mark::mark_state(session.state, &numbers[..n as usize]));
+                put_mark(
+                    page,
+                    mark::mark_state(session.state, &numbers[..n as usize]),
+                );
             }
         }
     }

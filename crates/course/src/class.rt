@@ -37,7 +37,14 @@ pub fn class(
     let mut pictures = [0u8; 303104];
     let state = session.state;
     let size = picture_bytes(state.p, state.t, state.m);
-    match turns::class(session, journal, scripts, turns, &mut answers, &mut pictures) {
+    match turns::class(
+        session,
+        journal,
+        scripts,
+        turns,
+        &mut answers,
+        &mut pictures,
+    ) {
         Ok(left) => {
             turn_lines(page, size, &answers[..turns.len()], &pictures);
             left
