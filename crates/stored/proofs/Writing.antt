@@ -27,10 +27,6 @@ pub state-valid : (r : Session) → session_ok r ≡ true → state_ok r.state �
 unfolding session_ok
 state-valid r e = both_left (state_ok r.state) (in_range 1 r.state.t r.initial) (both_left _ (in_range r.state.applied 4000 r.kept) e)
 
-pub bytes-long : (r : Session) → length (session_bytes r) ≡ picture_length r.state + 3
-unfolding session_bytes
-bytes-long r = length-append (picture (decode r.state)) _ ∙ omega (arith, picture_size r.state)
-
 -- the two bytes of a number
 pub high_byte : (n : ℕ) → n < 65536 → get_or (to_be_bytes w16 n) 0 0 ≡ n / 256
 high_byte n h = omega arith
