@@ -49,7 +49,12 @@ fn set_in_state(state: &mut State, i: u16, v: u16) {
         122..=220 => set_in_thread(&mut state.chains.threads[(k - 122) / 3], (i - 122) % 3, b),
         221 => state.stealing = b,
         222..=229 => state.chains.firsts[k - 213] = b,
-        230..=238 => state.processors[k - 230].probe = b,
+        230.. => {
+            let p = low(i - 230) as usize;
+            if p < 9 {
+                state.processors[p].probe = b;
+            }
+        }
         _ => {}
     }
 }

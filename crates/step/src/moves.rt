@@ -1,14 +1,15 @@
 // Moves: what a processor sees, what a move makes of it, and how that is put back in place.
 ghost use Rattle.std.specs.Prelude.{◌≡◌};
+ghost use Rattle.state.specs.Record.{processor_of};
 ghost use Rattle.state.specs.Refusal as refusals;
-ghost use Rattle.step.specs.Model.Moves.{target_of, probed, on_ring, index_of, view_of, carried, run_shown, run_of, counted_of, moved_shown, moved_of};
+ghost use Rattle.step.specs.Model.Moves.{target_of, probed, on_ring, index_of, move_view, carried, run_shown, run_of, counted_of, moved_shown, moved_of};
 
 use crate::calls::note_move;
 use crate::cause::{owns_none, sizes};
 use crate::deciding::decide;
 use crate::registers::{by_fields, mutex_by_fields};
 use crate::{Run, Status, Transfer, View};
-use state::access::{at, put};
+use state::access::{Zero, at, put};
 use state::queues::ready_queues;
 use state::range::in_range;
 use state::refusal::Refusal;
@@ -58,11 +59,34 @@ pub fn index_of(stealing: u8, n: u8, p: u8, r: Processor) -> u8
     on_ring(n, p, probed(r))
 }
 
-// What processor p sees: its registers, mutex m, and the queues.
-fn look(s: &State, p: u8, m: u8) -> View
-    ensures { result ≡ view_of s.now p m }
+// The registers of processor p, field by field.
+fn registers(s: &State, p: u8) -> Processor
+    ensures { result ≡ processor_of s.now p }
 {
-    let proc = by_fields(at(&s.processors, p as usize));
+    let i = p as usize;
+    let all: &[Processor] = &s.processors;
+    if i < all.len() {
+        by_fields(all[i])
+    } else {
+        Processor::zero()
+    }
+}
+
+// The current thread of processor p.
+fn current(s: &State, p: u8) -> u8
+    ensures { result ≡ (processor_of s.now p).current }
+{
+    let i = p as usize;
+    let all: &[Processor] = &s.processors;
+    if i < all.len() { all[i].current } else { 0 }
+}
+
+// What processor p sees: its registers, the mutex of its move, and the queues.
+fn look(s: &State, p: u8, action: u8, operand: u8) -> View
+    ensures { result ≡ move_view s.now p action operand }
+{
+    let proc = registers(s, p);
+    let m = target(action, proc.mutex, operand);
     let index = index_of(s.stealing, s.p, p, proc);
     View {
         number: p,
@@ -106,8 +130,8 @@ fn carry(chains: &mut Chains, p: u8, transfer: Transfer)
 pub fn make(s: &mut State, p: u8, action: u8, operand: u8) -> Result<(), Refusal>
     ensures { record { refusal = refusals.outcome result; state = s.new } ≡ moved_of s.old p action operand }
 {
-    let m = target(action, at(&s.processors, p as usize).mutex, operand);
-    let v = look(s, p, m);
+    let v = look(s, p, action, operand);
+    let m = target(action, v.proc.mutex, operand);
     let z = sizes(s.p, s.t, s.m, s.applied);
     let done = decide(&s.chains.threads, z, v, action, operand)?;
     if action == 5 && !owns_none(s.mutexes, s.m, v.proc.current) {
@@ -134,7 +158,7 @@ pub fn run(mut s: State, moves: &[u8], calls: &mut [u16]) -> Run
         let p = moves[3 * made];
         let action = moves[3 * made + 1];
         let operand = moves[3 * made + 2];
-        let caller = at(&s.processors, p as usize).current;
+        let caller = current(&s, p);
         if let Err(refusal) = make(&mut s, p, action, operand) {
             return Run {
                 outcome: Err(refusal),

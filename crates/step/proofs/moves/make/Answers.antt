@@ -6,35 +6,30 @@ use borrow.Author.Tests.{ltb-true, ltb-false}
 use Rattle.reference.specs.Lists.{choose}
 use Rattle.std.proofs.lemmas.Result.{err_from_is_err_and}
 use Rattle.state.specs.declared.State.{State}
-use Rattle.state.specs.declared.Processor.{Processor}
 use Rattle.state.specs.declared.Mutex.{Mutex}
 use Rattle.state.specs.declared.refusal.Refusal.{Refusal}
-use Rattle.state.specs.Record.{processor_of, thread_of}
+use Rattle.state.specs.Record.{thread_of}
 use Rattle.state.specs.Refusal.{number, outcome}
 use Rattle.state.proofs.Refused.{not_none}
 use Rattle.step.specs.declared.View.{View}
 use Rattle.step.specs.declared.Sizes.{Sizes}
 use Rattle.step.specs.declared.Decision as code
-use Rattle.step.specs.Model.Moves.{target_of, view_of, move_view, sizes_of, owns_none, up_to, decided, decision}
+use Rattle.step.specs.Model.Moves.{target_of, move_view, sizes_of, owns_none, up_to, decided, decision}
 use Rattle.step.proofs.InPlace.{stands, owner_stays, goes_free, free, at, parts, stays, unwritten, goes}
 use Rattle.step.proofs.moves.make.Goals as goal
 use Rattle.step.proofs.moves.make.Goals.{then-done, else-done, else-action-eq5-via-then-action-eq5+else-not-owns_none, else-action-eq5-via-else-action-eq5}
 
-module _ (s : State) (p a o : ℕ) where
-  -- the mutex that it works on, and what it sees
-  target_is : (r : Processor) (m : ℕ) → r ≡ processor_of s p → m ≡ target_of a r.mutex o → m ≡ target_of a (processor_of s p).mutex o
-  target_is r m r-is m-is = m-is ∙ ap (λ (q : Processor). target_of a q.mutex o) r-is
+module _ (s : State) (p a o : ℕ) (v : View) (v-is : v ≡ move_view s p a o) where
+  -- the mutex that it works on
+  target_is : (m : ℕ) → m ≡ target_of a v.proc.mutex o → m ≡ at s p a o
+  target_is m m-is = m-is ∙ ap (λ (q : View). target_of a q.proc.mutex o) v-is
 
-  module _ (v : View) (z : Sizes) (m : ℕ) (m-is : m ≡ target_of a (processor_of s p).mutex o) (v-is : v ≡ view_of s p m) (z-is : z ≡ sizes_of s) where
-    sees : v ≡ move_view s p a o
-    sees = v-is ∙ ap (view_of s p) m-is
+  at_home : (z : Sizes) → z ≡ sizes_of s → (x : Result code.Decision Refusal) → decided v a x ≡ decision z v (thread_of s o).status a o →
+      decided v a x ≡ decision (sizes_of s) (move_view s p a o) (thread_of s o).status a o
+  at_home z z-is x e = e ∙ rw (z-is, v-is)
 
-    at_home : (x : Result code.Decision Refusal) → decided v a x ≡ decision z v (thread_of s o).status a o →
-        decided v a x ≡ decision (sizes_of s) (move_view s p a o) (thread_of s o).status a o
-    at_home x e = e ∙ rw (z-is, sees)
-
-    asks : (b : Bool) → b ≡ owns_none s.mutexes s.m v.proc.current → b ≡ free s p a o
-    asks b e = e ∙ ap (λ (q : View). owns_none s.mutexes s.m q.proc.current) sees
+  asks : (b : Bool) → b ≡ owns_none s.mutexes s.m v.proc.current → b ≡ free s p a o
+  asks b e = e ∙ ap (λ (q : View). owns_none s.mutexes s.m q.proc.current) v-is
 
 -- one more, or the same at the largest number
 capped : (n : ℕ) → n ≤ 65535 → min (n + 1) (2 ^ 16 - 1) ≡ up_to 65535 n
@@ -51,8 +46,8 @@ returns-in_err-done c =
     let a = c.args in
     let s = a.s.now in
     let e = c.in_err-done.field-0.0 in
-    let m = target_is s a.p a.action a.operand c.at.result c.target-m.result c.at.ensures c.target-m.ensures in
-    let d = at_home s a.p a.action a.operand c.look-v.result c.sizes-z.result c.target-m.result m c.look-v.ensures c.sizes-z.ensures (Err e) c.in_err-done.ensures.decision in
+    let m = target_is s a.p a.action a.operand c.look-v.result c.look-v.ensures c.target-m.result c.target-m.ensures in
+    let d = at_home s a.p a.action a.operand c.look-v.result c.look-v.ensures c.sizes-z.result c.sizes-z.ensures (Err e) c.in_err-done.ensures.decision in
     rw (t.1, t.2) (stays s a.p a.action a.operand _ d (number e) (stands (free s a.p a.action a.operand) (number e) c.in_err-done.ensures.unasked) (not_none e))
 
 pub returns-then-not-owns_none : goal.returns-then-not-owns_none
@@ -60,9 +55,9 @@ unfolding outcome number decided
 returns-then-not-owns_none c =
     let a = c.args in
     let s = a.s.now in
-    let m = target_is s a.p a.action a.operand c.at.result c.target-m.result c.at.ensures c.target-m.ensures in
-    let d = at_home s a.p a.action a.operand c.look-v.result c.sizes-z.result c.target-m.result m c.look-v.ensures c.sizes-z.ensures (Ok c.in_ok-done.done) c.in_ok-done.ensures.decision in
-    let owns = asks s a.p a.action a.operand c.look-v.result c.sizes-z.result c.target-m.result m c.look-v.ensures c.sizes-z.ensures c.owns_none.result c.owns_none.ensures in
+    let m = target_is s a.p a.action a.operand c.look-v.result c.look-v.ensures c.target-m.result c.target-m.ensures in
+    let d = at_home s a.p a.action a.operand c.look-v.result c.look-v.ensures c.sizes-z.result c.sizes-z.ensures (Ok c.in_ok-done.done) c.in_ok-done.ensures.decision in
+    let owns = asks s a.p a.action a.operand c.look-v.result c.look-v.ensures c.owns_none.result c.owns_none.ensures in
     let owner = owner_stays (free s a.p a.action a.operand) a.action c.if-action-eq5.true (sym owns ∙ c.if-not-owns_none.true) in
     stays s a.p a.action a.operand _ d 21 owner (λ e. omega arith)
 
@@ -71,13 +66,13 @@ unfolding outcome decided
 returns c =
     let a = c.args in
     let s = a.s.now in
-    let m = target_is s a.p a.action a.operand c.at.result c.target-m.result c.at.ensures c.target-m.ensures in
-    let d = at_home s a.p a.action a.operand c.look-v.result c.sizes-z.result c.target-m.result m c.look-v.ensures c.sizes-z.ensures (Ok c.in_ok-done.done) c.in_ok-done.ensures.decision in
+    let m = target_is s a.p a.action a.operand c.look-v.result c.look-v.ensures c.target-m.result c.target-m.ensures in
+    let d = at_home s a.p a.action a.operand c.look-v.result c.look-v.ensures c.sizes-z.result c.sizes-z.ensures (Ok c.in_ok-done.done) c.in_ok-done.ensures.decision in
     let e = c.in_ok-done.done.effect in
     let none = goes_free (free s a.p a.action a.operand) a.action
     (elim c.else-action-eq5.branch [
       | else-action-eq5-via-then-action-eq5+else-not-owns_none w ↦
-          λ five. sym (asks s a.p a.action a.operand c.look-v.result c.sizes-z.result c.target-m.result m c.look-v.ensures c.sizes-z.ensures w.owns_none.result w.owns_none.ensures) ∙ w.if-not-owns_none.false
+          λ five. sym (asks s a.p a.action a.operand c.look-v.result c.look-v.ensures w.owns_none.result w.owns_none.ensures) ∙ w.if-not-owns_none.false
       | else-action-eq5-via-else-action-eq5 w ↦ λ five. absurd (w.if-action-eq5.false five)
     ])
     in

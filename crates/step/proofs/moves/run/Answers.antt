@@ -26,7 +26,7 @@ loop-made-preserved c =
     let a = c.args in
     let l = c.loop-made in
     running_more a.s a.moves.now a.calls.now l.made l.s l.calls l.invariant (omega arith) 0 c.make.new.s c.in_default.ensures c.note_move.new.calls refl
-    (rw c.at-caller.ensures at c.note_move.ensures)
+    (rw c.current-caller.ensures at c.note_move.ensures)
 
 pub returns : goal.returns
 unfolding outcome
