@@ -34,7 +34,8 @@ fn picture_line(state: State, page: &mut Page)
 
 impl<'a> Shell<'a> {
     pub fn new(journal: &'a mut [u8]) -> Shell<'a>
-        ensures { context_of result ≡ initial journal.old }
+        ensures context { context_of result ≡ initial journal.old }
+        ensures same_journal { result.journal.ghost_name ≡ journal.entry.ghost_name }
     {
         Shell {
             session: None,
@@ -46,6 +47,7 @@ impl<'a> Shell<'a> {
     #[tactic(auto, using(state::proofs::Refused::numbered), unfolding(state::specs::Refusal::outcome, session::specs::Contract::answer_of))]
     fn start(&mut self, p: u8, t: u8, m: u8, b: u8, stealing: u8, page: &mut Page)
         ensures self_after { context_of self.new ≡ begun_by (started (table p t m b stealing)) (context_of self.old) }
+        ensures same_journal { self.new.journal.ghost_name ≡ self.old.journal.ghost_name }
         ensures page_after { page.new ≡ written page.old (number (started (table p t m b stealing)).refusal) }
     {
         let answer = session::start(p, t, m, b, stealing);
@@ -61,6 +63,7 @@ impl<'a> Shell<'a> {
         requires { self.old.session ≡ Some session }
         ensures answer { move_answer_of session result ≡ moved session self.old.journal.now (move_of p a o) }
         ensures self_after { context_of self.new ≡ holding true (moved session self.old.journal.now (move_of p a o)).session (journal_after session self.old.journal.now (move_of p a o)) }
+        ensures same_journal { self.new.journal.ghost_name ≡ self.old.journal.ghost_name }
     {
         let answer = session::make_move(session, self.journal, p, a, o);
         if let Ok(made) = answer {
@@ -73,6 +76,7 @@ impl<'a> Shell<'a> {
     fn step(&mut self, session: Session, p: u8, a: u8, o: u8, page: &mut Page)
         requires { self.old.session ≡ Some session }
         ensures self_after { context_of self.new ≡ holding true (moved session self.old.journal.now (move_of p a o)).session (journal_after session self.old.journal.now (move_of p a o)) }
+        ensures same_journal { self.new.journal.ghost_name ≡ self.old.journal.ghost_name }
         ensures page_after { page.new ≡ written page.old (number (moved session self.old.journal.now (move_of p a o)).refusal) }
     {
         page.number_line(outcome(self.make_move(session, p, a, o)));
@@ -88,6 +92,7 @@ impl<'a> Shell<'a> {
     fn goto(&mut self, session: Session, k: u16, page: &mut Page)
         requires { self.old.session ≡ Some session }
         ensures self_after { context_of self.new ≡ holding true (went session self.old.journal.now k).session self.old.journal.now }
+        ensures same_journal { self.new.journal.ghost_name ≡ self.old.journal.ghost_name }
         ensures page_after { page.new ≡ written page.old (number (went session self.old.journal.now k).refusal) }
     {
         let answer = self.went(session, k);
@@ -101,6 +106,7 @@ impl<'a> Shell<'a> {
     #[tactic(auto, unfolding(crate::specs::Answers::response, crate::specs::Answers::after))]
     pub fn respond(&mut self, command: Command, page: &mut Page)
         ensures self_after { context_of self.new ≡ after command (context_of self.old) }
+        ensures same_journal { self.new.journal.ghost_name ≡ self.old.journal.ghost_name }
         ensures page_after { page.new ≡ written page.old (response command (context_of self.old)) }
     {
         match (command, self.session) {
