@@ -4,7 +4,7 @@
 ghost use Rattle.std.specs.Prelude.{◌≡◌, length};
 ghost use Rattle.reference.specs.Step.{move_of};
 ghost use Rattle.state.specs.Refusal.{outcome};
-ghost use Rattle.session.specs.Contract.{table, moved, journal_after, went};
+ghost use Rattle.session.specs.Contract.{table, lent_refusal, moved, journal_after, went};
 ghost use Rattle.turns.specs.Contract.{turned, turn_journal};
 ghost use Rattle.stored.specs.Stored.{session_in};
 ghost use Rattle.stored.specs.Calls.{start_number, start_bytes, move_bytes, turn_bytes, goto_bytes, picture_number, picture_after, front_shown, front_number};
@@ -75,7 +75,8 @@ pub fn picture(session: &[u8], buffer: &mut [u8]) -> Result<(), Refusal>
 
 // How many bytes of the journal are its front: 10, 15.
 pub fn front(session: &[u8], journal: &[u8]) -> Result<u16, Refusal>
-    ensures { front_shown result ≡ front_number session.now journal.now }
+    ensures number { outcome result ≡ lent_refusal (session_in session.now) (length journal.now) }
+    ensures shown { front_shown result ≡ front_number session.now journal.now }
 {
     let standing = session::front(read(session), journal)?;
     Ok(standing.len() as u16)

@@ -7,7 +7,7 @@ ghost use Rattle.std.specs.Prelude.{◌≡◌};
 ghost use Rattle.state.specs.Record.{processor_of};
 ghost use Rattle.step.specs.Model.Moves.{view_of};
 ghost use Rattle.touch.specs.Association.{touch_record, touch_shown, word_shown};
-ghost use Rattle.reference.specs.Touch.{nothing, kind, number, touches_word, apart};
+ghost use Rattle.reference.specs.Touch.{nothing, kind, number, same_word, touches_word, apart};
 ghost use Rattle.touch.specs.Model.Made.{sight_of, touch_of, made_shown, made_of};
 
 use state::access::at;
@@ -81,11 +81,18 @@ impl Word {
     }
 }
 
+// The two are one word.
+pub fn same_word(v: Word, w: Word) -> bool
+    ensures { result ≡ same_word (word_shown v) (word_shown w) }
+{
+    v == w
+}
+
 // The word is read or written; none is no word.
 fn touches_word(t: Touch, w: Word) -> bool
     ensures { result ≡ touches_word (touch_shown t) (word_shown w) }
 {
-    w != Word::None && (t.reads == w || t.writes == w)
+    !same_word(w, Word::None) && (same_word(t.reads, w) || same_word(t.writes, w))
 }
 
 // Neither writes a word that the other touches.
