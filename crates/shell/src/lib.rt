@@ -51,7 +51,7 @@ impl Shell {
         }
     }
 
-    // A move in a session, which is held then: refused, as it was handed in.
+    // A move in a session, which is held from then on: refused, as it was handed in.
     #[tactic(auto, unfolding(session::specs::Contract::move_answer_of))]
     pub fn make_move(
         &mut self,
