@@ -18,6 +18,7 @@ use Rattle.chart.specs.Chart.{chart_text}
 use Rattle.mark.specs.Mark.{marked, state_marked}
 use Rattle.shell.specs.Answers as shell
 use Rattle.shell.specs.Answers.{number, question_mark}
+use Rattle.course.specs.declared.answers.Base.{Base}
 use Rattle.course.specs.declared.answers.Course.{Course}
 use Rattle.course.specs.Answers.{move_text, zeros, class_text, mark_text, help_text}
 
@@ -27,8 +28,11 @@ pub record Context : Type 0 where
   pub scripts : List ℕ
 
 -- what the program holds
+abbrev pub base_of : Base → shell.Context
+base_of b = shell.context_of b.shell b.journal.now
+
 abbrev pub context_of : Course → Context
-context_of c = record { base = shell.context_of c.shell; scripts = c.scripts.now }
+context_of c = record { base = base_of c.base; scripts = c.scripts.now }
 
 -- before the first line; the program begins with the scripts of 32 threads, all empty
 abbrev pub started_with : List ℕ → List ℕ → Context

@@ -9,7 +9,7 @@ ghost use Rattle.std.specs.Prelude.{◌≤◌, length};
 ghost use Rattle.command.specs.Transcript.{Run};
 ghost use Rattle.course.specs.Program.{context_of, started_with, course};
 
-use crate::answers::Course;
+use crate::answers::{Base, Course};
 use command::printing::Page;
 use command::program::Answering;
 use command::request::request_of;
@@ -42,7 +42,10 @@ fn run(
     ensures { Run course (started_with journal.old scripts.old) }
 {
     let mut program = Course {
-        shell: Shell::new(journal),
+        base: Base {
+            shell: Shell::new(),
+            journal,
+        },
         scripts,
     };
     command::program::run(stdin, &mut program, chunk, bytes, out);

@@ -24,13 +24,13 @@ pub record Context : Type 0 where
 abbrev pub initial : List ℕ → Context
 initial j = record { begun = false; session = (started (table 0 0 0 0 0)).session; journal = j }
 
--- what the program holds: no session before a start has been accepted
+-- what the program holds, with the journal: no session before a start has been accepted
 abbrev pub context_in : Option Session → List ℕ → Context
 context_in None j = initial j
 context_in (Some r) j = record { begun = true; session = r; journal = j }
 
-abbrev pub context_of : Shell → Context
-context_of d = context_in d.session d.journal.now
+abbrev pub context_of : Shell → List ℕ → Context
+context_of d j = context_in d.session j
 
 -- a line with `?`
 abbrev pub question_mark : List ℕ

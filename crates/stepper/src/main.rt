@@ -14,16 +14,17 @@ use std::io::Stdin;
 
 #[derive(Drop)]
 struct Stepper<'a> {
-    shell: Shell<'a>,
+    shell: Shell,
+    journal: &'a mut [u8],
 }
 
 impl Answering for Stepper<'_> {
     ghost program = { stepper };
 
-    ghost context = { λ s. context_of s.shell };
+    ghost context = { λ s. context_of s.shell s.journal.now };
 
     fn respond(&mut self, line: &[u8], page: &mut Page) {
-        self.shell.respond(command_of(line), page);
+        self.shell.respond(self.journal, command_of(line), page);
     }
 }
 
@@ -33,7 +34,8 @@ fn run(stdin: Stdin, journal: &mut [u8], chunk: &mut [u8], bytes: &mut [u8], out
     ensures { Run stepper (initial journal.old) }
 {
     let mut program = Stepper {
-        shell: Shell::new(journal),
+        shell: Shell::new(),
+        journal,
     };
     command::program::run(stdin, &mut program, chunk, bytes, out);
 }
