@@ -44,7 +44,7 @@ pub fn read(bytes: &[u8]) -> Result<State, Refusal>
     if !rules::field::fields_ok(state) {
         return Err(Refusal::BadField);
     }
-    if !reader::chained(bytes, part, &state) {
+    if !reader::chained(bytes, part, state) {
         return Err(Refusal::BadChain);
     }
     if !rules::holder::holders_ok(state) {

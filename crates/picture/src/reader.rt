@@ -69,18 +69,22 @@ pub(crate) fn zeros<'a>(b: &'a [u8], part: &'a [u8]) -> bool
     let mutexes = from(b, mutexes_at(at(b, 0)));
     (at(b, 6) == 0)
         & each(1, at(b, 2), |i| {
-            let x = record::<Mutex>(mutexes, i);
-            (at(x, 6) == 0) & (at(x, 7) == 0)
+            let x = Width::MUTEX * (i.saturating_sub(1) as usize);
+            (at(mutexes, x + 6) == 0) & (at(mutexes, x + 7) == 0)
         })
-        & each(1, at(b, 1), |k| at(record::<Thread>(part, k), 3) == 0)
+        & each(
+            1,
+            at(b, 1),
+            |k| at(part, Width::THREAD * (k.saturating_sub(1) as usize) + 3) == 0,
+        )
 }
 
 // Rule 13 of a record that was read, its chains walked in the part.
-pub(crate) fn chained<'a>(b: &'a [u8], part: &'a [u8], s: &State) -> bool
+pub(crate) fn chained<'a>(b: &'a [u8], part: &'a [u8], s: State) -> bool
     requires shape { shape_refusal b.now ≡ 0 }
     requires part { part.now ≡ threads_part b.now }
-    requires record { s.now ≡ fields b.now }
-    ensures { result ≡ chains_ok s.now }
+    requires record { s ≡ fields b.now }
+    ensures { result ≡ chains_ok s }
 {
     rules::chain::chains_ok(part, s.chains.firsts, s.t)
 }
