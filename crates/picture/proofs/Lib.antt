@@ -8,4 +8,5 @@ pub mod WriteBack
 pub mod Written
 pub mod Numbers
 pub mod Formula
+pub mod Reading
 pub mod RoundTrip

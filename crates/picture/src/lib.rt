@@ -11,9 +11,10 @@ mod row;
 mod waiting;
 pub mod writer;
 
-use rules::field::Sizes;
+use row::from;
 use state::State;
-use state::layout::{Width, picture_bytes};
+use state::access::at;
+use state::layout::threads_at;
 use state::range::in_range;
 use state::refusal::Refusal;
 
@@ -30,30 +31,25 @@ pub fn write(s: State, buffer: &mut [u8]) -> Result<(), Refusal>
 }
 
 // The state that the bytes show: under 8 bytes 11, sizes 12, full length 11, then 12, 13, 14.
-#[tactic(auto, unfolding(state::specs::Refusal::outcome, state::specs::Refusal::number, crate::specs::Picture::read, crate::specs::Picture::read_refusal, crate::specs::Picture::read_shown))]
+#[tactic(auto, unfolding(state::specs::Refusal::outcome, state::specs::Refusal::number, state::specs::Rules::broken_rule, crate::specs::Model::Parts::shape_refusal, crate::specs::Picture::read, crate::specs::Picture::read_refusal, crate::specs::Picture::read_shown))]
 pub fn read(bytes: &[u8]) -> Result<State, Refusal>
     ensures { read_shown result ≡ read bytes.now }
 {
-    if bytes.len() < Width::HEADER {
-        return Err(Refusal::BadLength);
-    }
-    let state = reader::fields(bytes);
-    let sizes = Sizes {
-        p: state.p,
-        t: state.t,
-        m: state.m,
-        stealing: state.stealing,
-    };
-    if !sizes.fit() {
+    reader::shape(bytes)?;
+    let part = from(bytes, threads_at(at(bytes, 0), at(bytes, 2)));
+    let state = reader::fields(bytes, part);
+    if !reader::zeros(bytes, part) {
         return Err(Refusal::BadField);
     }
-    if bytes.len() != picture_bytes(state.p, state.t, state.m) {
-        return Err(Refusal::BadLength);
-    }
-    if !reader::zeros(bytes) {
+    if !rules::field::fields_ok(state) {
         return Err(Refusal::BadField);
     }
-    rules::broken_rule(state)?;
+    if !reader::chained(bytes, part, state) {
+        return Err(Refusal::BadChain);
+    }
+    if !rules::holder::holders_ok(state) {
+        return Err(Refusal::BadHolder);
+    }
     Ok(state)
 }
 

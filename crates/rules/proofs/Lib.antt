@@ -6,5 +6,6 @@ pub mod Bits
 pub mod Walks
 pub mod Chains
 pub mod Placed
+pub mod Agree
 pub mod Firsts
 pub mod Wrong

@@ -1,14 +1,62 @@
-// Rule 13: the queues as chains.
-ghost use Rattle.std.specs.Prelude.{◌≡◌, get_or};
-ghost use Rattle.state.specs.Record.{thread_in};
+// Rule 13: the queues as chains, over a record's threads and over a picture's bytes alike.
+ghost use Rattle.std.specs.Prelude.{◌≡◌, ◌≤◌, ℕ, get_or};
+ghost use Rattle.state.specs.declared.Thread.{Thread};
+ghost use Rattle.state.specs.Record.{zero_thread, thread_in};
 ghost use Rattle.state.specs.Rules.{placed_in, chains_in};
 ghost use Rattle.rules.specs.Walk.{has_bit, walk_to, Represents, RepresentsAlong};
+ghost use Rattle.rules.specs.Model.Bytes.{thread_in_bytes};
 ghost use Rattle.rules.specs.Model.Chain.{with_bit, queued, none_missed};
 
-use state::access::at;
+use state::Thread;
+use state::access::{Zero, at};
+use state::layout::Width;
 use state::queues::queued_in;
 use state::range::{each, in_range};
-use state::{Chains, Thread};
+
+// Where the threads that the chains name are read.
+pub trait ThreadTable: Copy {
+    ghost thread: { Self → ℕ → Thread };
+
+    // Thread k, the zero record where there is none.
+    fn thread(self, k: u8) -> Thread
+        ensures read { result ≡ thread self k }
+        ensures none { 33 ≤ k → result ≡ zero_thread };
+}
+
+// A record's threads.
+impl ThreadTable for &[Thread; 33] {
+    ghost thread = { λ threads. thread_in threads.now };
+
+    fn thread(self, k: u8) -> Thread {
+        at(self, k as usize)
+    }
+}
+
+// The thread records of a picture, as they stand in its bytes.
+impl ThreadTable for &[u8] {
+    ghost thread = { λ threads. thread_in_bytes threads.now };
+
+    #[tactic(auto, unfolding(crate::specs::Model::Bytes::thread_in_bytes))]
+    fn thread(self, k: u8) -> Thread {
+        if !in_range(1, 32, k) {
+            return Thread::zero();
+        }
+        let i = Width::THREAD * (k as usize - 1);
+        // the record is there whole, as each of a picture is; cut short, what is missing is 0
+        if i + 2 < self.len() {
+            return Thread {
+                status: self[i],
+                holder: self[i + 1],
+                next: self[i + 2],
+            };
+        }
+        Thread {
+            status: at(self, i),
+            holder: at(self, i + 1),
+            next: at(self, i + 2),
+        }
+    }
+}
 
 // The threads met so far, bit k for thread k; whether the walk ended at a thread met already, and whether at one not placed in its queue.
 // kept: three fields and no Result, since `OneAnswer` and `OneNumber` of specs/Walk.antt are stated of them, and both tests may fail at one thread.
@@ -42,18 +90,18 @@ fn placed_in(x: Thread, q: u8) -> bool
 }
 
 // At most `most` threads of queue q's chain, after the threads met before.
-fn walk(c: &Chains, q: u8, most: u8, before: u64) -> Walked
-    ensures { RepresentsAlong (thread_in c.now.threads) q most (get_or c.now.firsts q 0) before result }
+fn walk<T: ThreadTable>(threads: T, q: u8, first: u8, most: u8, before: u64) -> Walked
+    ensures { RepresentsAlong (T.thread threads) q most first before result }
 {
     let mut met = before;
-    let mut k = at(&c.firsts, q as usize);
+    let mut k = first;
     for _ in 0..most {
         if k == 0 {
             break;
         }
-        let x = at(&c.threads, k as usize);
-        let twice = has_bit(met, k);
+        let x = threads.thread(k);
         let misplaced = !placed_in(x, q);
+        let twice = has_bit(met, k);
         if twice | misplaced {
             return Walked {
                 met,
@@ -73,18 +121,18 @@ fn walk(c: &Chains, q: u8, most: u8, before: u64) -> Walked
 
 // The chains of all queues before `last` in order, then at most `most` threads of that one's.
 // Of a chain 33 threads are looked at: of 32 threads one is then met a second time.
-fn walk_to(c: &Chains, last: u8, most: u8) -> Walked
-    ensures { Represents (walk_to (thread_in c.now.threads) (λ q. get_or c.now.firsts q 0) last most) result }
+fn walk_to<T: ThreadTable>(threads: T, firsts: &[u8; 17], last: u8, most: u8) -> Walked
+    ensures { Represents (walk_to (T.thread threads) (λ q. get_or firsts.now q 0) last most) result }
 {
     let mut met: u64 = 0;
     for q in 0..last {
-        let w = walk(c, q, 33, met);
+        let w = walk(threads, q, at(firsts, q as usize), 33, met);
         if w.twice | w.misplaced {
             return w;
         }
         met = w.met;
     }
-    walk(c, last, most, met)
+    walk(threads, last, at(firsts, last as usize), most, met)
 }
 
 // The thread is placed in one of the queues.
@@ -95,18 +143,16 @@ fn queued(x: Thread) -> bool
 }
 
 // Each of the threads 1 to t that is placed in a queue was met.
-fn none_missed(c: &Chains, met: u64, t: u8) -> bool
-    ensures { result ≡ none_missed (thread_in c.now.threads) met t }
+fn none_missed<T: ThreadTable>(threads: T, met: u64, t: u8) -> bool
+    ensures { result ≡ none_missed (T.thread threads) met t }
 {
-    each(1, t, |k| {
-        !queued(at(&c.threads, k as usize)) | has_bit(met, k)
-    })
+    each(1, t, |k| !queued(threads.thread(k)) | has_bit(met, k))
 }
 
 // No chain meets a thread twice or one not placed there, and none placed there is missed.
-pub fn chains_ok(c: &Chains, t: u8) -> bool
-    ensures { result ≡ chains_in (thread_in c.now.threads) (λ q. get_or c.now.firsts q 0) t }
+pub fn chains_ok<T: ThreadTable>(threads: T, firsts: [u8; 17], t: u8) -> bool
+    ensures { result ≡ chains_in (T.thread threads) (λ q. get_or firsts q 0) t }
 {
-    let w = walk_to(c, 16, 33);
-    !w.twice & !w.misplaced & none_missed(c, w.met, t)
+    let w = walk_to(threads, &firsts, 16, 33);
+    !w.twice & !w.misplaced & none_missed(threads, w.met, t)
 }

@@ -23,7 +23,7 @@ pub fn broken_rule(s: State) -> Result<(), Refusal>
     if !field::fields_ok(s) {
         return Err(Refusal::BadField);
     }
-    if !chain::chains_ok(&s.chains, s.t) {
+    if !chain::chains_ok(&s.chains.threads, s.chains.firsts, s.t) {
         return Err(Refusal::BadChain);
     }
     if !holder::holders_ok(s) {

@@ -1,13 +1,16 @@
 -- What the code's writers and readers compute of the parts of a picture.
 -- Assumes nothing.
-use Rattle.std.specs.Prelude.{ℕ, zero, suc, ◌+◌, List, [], ◌∷◌, ◌++◌, leb, eqb, length, drop}
+use Rattle.std.specs.Prelude.{ℕ, zero, suc, ◌+◌, not, List, [], ◌∷◌, ◌++◌, leb, eqb, ltb, length, drop}
 use Rattle.state.specs.declared.Thread.{Thread}
 use Rattle.state.specs.declared.Processor.{Processor}
 use Rattle.state.specs.declared.Mutex.{Mutex}
 use Rattle.state.specs.declared.State.{State}
 use Rattle.state.specs.Record.{thread_of, processor_of, mutex_of, first_of, chain}
+use Rattle.state.specs.Rules.{sizes_ok}
+use Rattle.reference.specs.Refusal.{bad_length, bad_field, refuse}
 use Rattle.reference.specs.Lists.{choose, if_zero}
 use Rattle.reference.specs.Picture.{two}
+use Rattle.picture.specs.Picture.{picture_length, fields}
 use Rattle.picture.specs.Turns.{Ahead, Turns, NotWaiting, before}
 
 -- ---- writing
@@ -45,6 +48,14 @@ threads_bytes r = rows (λ k. thread_bytes (thread_of r k)) 1 r.t
 
 unfoldable pub record_bytes : State → List ℕ
 record_bytes r = header_bytes r.p r.t r.m (first_of r 0) r.applied r.stealing ++ processors_bytes r ++ mutexes_bytes r ++ threads_bytes r
+
+-- ---- reading
+
+-- the refusals that come before the rules
+unfoldable pub shape_refusal : List ℕ → ℕ
+shape_refusal b =
+    refuse (ltb (length b) 8) bad_length
+    (refuse (not (sizes_ok (fields b))) bad_field (refuse (not (eqb (length b) (picture_length (fields b)))) bad_length 0))
 
 -- ---- turns ahead by the thread's own record
 

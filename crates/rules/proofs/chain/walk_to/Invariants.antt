@@ -5,10 +5,9 @@ use mathlib.Core.Bool.{false}
 use mathlib.Core.Path.{◌≡◌}
 use lib.ListN.{get_or}
 use Rattle.rules.specs.Walk.{Bits, ended, walk_before}
-use Rattle.state.specs.Record.{thread_in}
 use Rattle.rules.proofs.chain.walk_to.Given as goal
 
 abbrev pub invariant-loop-q : goal.invariant-loop-q
-invariant-loop-q l =
-    let w = walk_before (thread_in l.c.threads) (λ (j : ℕ). get_or l.c.firsts j 0) l.q in
+invariant-loop-q g l =
+    let w = walk_before (g.T.ThreadTable.thread l.threads) (λ (j : ℕ). get_or l.firsts j 0) l.q in
     (ended w ≡ false) × Bits l.met w.met
