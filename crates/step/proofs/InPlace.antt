@@ -2,7 +2,7 @@
 -- Assumes nothing.
 use Prim.Native.Nat.{ℕ, zero, suc, ◌+◌, ◌-◌, ◌*◌, ◌/◌, ◌<◌}
 use mathlib.Core.Bool.{Bool, true, false, not, ◌&&◌, ◌||◌, or-true, true≢false}
-use mathlib.Core.List.{List}
+use mathlib.Core.List.{List, [], ◌∷◌}
 use mathlib.Core.Logic.{◌⊎◌, inl, inr}
 use mathlib.Core.Path.{◌≡◌, refl, sym, ap, ◌∙◌}
 use native.Mathlib.Omega.{arith}
@@ -280,6 +280,22 @@ module _ (s : State) (p a o : ℕ) where
       pub goes : (after : State) → after ≡ put_effect s p at d.effect → record { refusal = 0; state = after } ≡ moved_of s p a o
       unfolding moved_of stepped_of
       goes after e = rw (← refusal_is, z, e, effect_is)
+
+-- a list of one move
+pub moved-is : (s : State) (p a o : ℕ) →
+    record { refusal = (run_of s (p ∷ a ∷ o ∷ [])).refusal; state = (run_of s (p ∷ a ∷ o ∷ [])).state } ≡ moved_of s p a o
+unfolding run_from moved_of
+moved-is s p a o = by (eqb (refusal_of s p a o) 0) refl
+  where
+    by : (b : Bool) → eqb (refusal_of s p a o) 0 ≡ b →
+        ◌≡◌ {A = Moved}
+        (record {
+          refusal = (choose {A = Run} b (ran 0 1 (choose b (stepped_of s p a o) s)) (ran (refusal_of s p a o) 0 s)).refusal;
+          state = (choose {A = Run} b (ran 0 1 (choose b (stepped_of s p a o) s)) (ran (refusal_of s p a o) 0 s)).state;
+        })
+        (record { refusal = refusal_of s p a o; state = choose b (stepped_of s p a o) s })
+    by true e = ap (λ (n : ℕ). record { refusal = n; state = stepped_of s p a o }) (sym (eqb-true (refusal_of s p a o) 0 e))
+    by false e = refl
 
 -- a move that is refused leaves the record
 pub left_alone : (s : State) (p a o n : ℕ) (after : State) → record { refusal = n; state = after } ≡ moved_of s p a o → (n ≡ 0 → ⊥) → after ≡ s

@@ -2,7 +2,7 @@
 ghost use Rattle.std.specs.Prelude.{◌≡◌};
 ghost use Rattle.state.specs.Record.{processor_of};
 ghost use Rattle.state.specs.Refusal as refusals;
-ghost use Rattle.step.specs.Model.Moves.{target_of, probed, on_ring, index_of, move_view, carried, run_shown, run_of, counted_of, moved_shown, moved_of};
+ghost use Rattle.step.specs.Model.Moves.{target_of, probed, on_ring, index_of, unlooked, move_view, carried, run_shown, run_of, counted_of, moved_shown, moved_of};
 
 use crate::calls::note_move;
 use crate::cause::{owns_none, sizes};
@@ -81,9 +81,9 @@ fn current(s: &State, p: u8) -> u8
     if i < all.len() { all[i].current } else { 0 }
 }
 
-// What processor p sees: its registers, the mutex of its move, and the queues.
+// What processor p sees before it looks into the queues: its registers, the mutex of its move, and which ready queue it works on.
 fn look(s: &State, p: u8, action: u8, operand: u8) -> View
-    ensures { result ≡ move_view s.now p action operand }
+    ensures { result ≡ unlooked (move_view s.now p action operand) }
 {
     let proc = registers(s, p);
     let m = target(action, proc.mutex, operand);
@@ -92,8 +92,8 @@ fn look(s: &State, p: u8, action: u8, operand: u8) -> View
         number: p,
         proc,
         mutex: mutex_by_fields(at(&s.mutexes, m as usize)),
-        queue: s.chains.take(m),
-        ready: s.chains.take(index),
+        queue: None,
+        ready: None,
         index,
         queues: ready_queues(s.stealing, s.p),
     }
@@ -133,7 +133,7 @@ pub fn make(s: &mut State, p: u8, action: u8, operand: u8) -> Result<(), Refusal
     let v = look(s, p, action, operand);
     let m = target(action, v.proc.mutex, operand);
     let z = sizes(s.p, s.t, s.m, s.applied);
-    let done = decide(&s.chains.threads, z, v, action, operand)?;
+    let done = decide(&s.chains, m, z, v, action, operand)?;
     if action == 5 && !owns_none(s.mutexes, s.m, v.proc.current) {
         return Err(Refusal::StillOwner);
     }
@@ -175,11 +175,13 @@ pub fn run(mut s: State, moves: &[u8], calls: &mut [u16]) -> Run
     }
 }
 
-// One move.
+// One move: a list of one, so that the moves of a list alone go through `make`, which a compiler then puts into their loop.
 pub fn moved(s: State, p: u8, action: u8, operand: u8) -> Result<State, Refusal>
     ensures { moved_shown s result ≡ moved_of s p action operand }
 {
-    let mut after = s;
-    make(&mut after, p, action, operand)?;
-    Ok(after)
+    let done = run(s, &[p, action, operand], &mut [0u16; 1]);
+    match done.outcome {
+        Ok(()) => Ok(done.state),
+        Err(refusal) => Err(refusal),
+    }
 }

@@ -94,6 +94,14 @@ on_ring n p l = choose ((in_range 1 8 n && in_range 1 n p) && ltb l n) (8 + arou
 abbrev pub index_of : ℕ → ℕ → ℕ → Processor → ℕ
 index_of stealing n p r = if_zero stealing 0 (on_ring n p (probed r))
 
+-- a view before a look into the queues, and with what taking from queue m of some chains and from their ready queue finds
+abbrev pub unlooked : View → View
+unlooked v = record { number = v.number; proc = v.proc; mutex = v.mutex; queue = None; ready = None; index = v.index; queues = v.queues }
+
+abbrev pub looking : Chains → ℕ → View → View
+looking c m v =
+    record { number = v.number; proc = v.proc; mutex = v.mutex; queue = taken c m; ready = taken c v.index; index = v.index; queues = v.queues }
+
 -- ---- effects
 
 abbrev pub effect : Processor → Mutex → Transfer → Effect

@@ -14,7 +14,8 @@ use Rattle.state.proofs.Refused.{numbered}
 use Rattle.step.specs.declared.View.{View}
 use Rattle.step.specs.declared.Sizes.{Sizes}
 use Rattle.step.specs.declared.Outcome.{Outcome}
-use Rattle.step.specs.Model.Moves.{cause_seen, tried, act_outcome, refusal_seen, decision, decided}
+use Rattle.state.specs.declared.Chains.{Chains}
+use Rattle.step.specs.Model.Moves.{looking, cause_seen, tried, act_outcome, refusal_seen, decision, decided}
 use Rattle.step.proofs.InPlace.{same-cause, owner-cause, unasked}
 use Rattle.step.proofs.deciding.decide.Goals as goal
 
@@ -43,24 +44,31 @@ module _ (z : Sizes) (v : View) (status a o : ℕ) where
     unfolding decided decision refusal_seen
     makes e = rw (owner-cause z v status a o (sym none), tried_left (eqb a 5), ← d-is, e, tried_left (eqb a 5))
 
+-- no cause asks what is in the queues
+same_seen : (z : Sizes) (v : View) (c : Chains) (m status a o : ℕ) → cause_seen z v false status a o ≡ cause_seen z (looking c m v) false status a o
+unfolding cause_seen
+same_seen z v c m status a o = refl
+
 pub returns-in_err-cause : goal.returns-in_err-cause
 unfolding outcome
 returns-in_err-cause c =
     let p = err_from_is_err_and c.from_residual.result c.from_residual.ensures.1 in
     let a = c.args in
-    let k = c.in_err-cause.ensures in
+    let v = looking a.chains.now a.m a.v in
+    let k = c.in_err-cause.ensures ∙ same_seen a.z a.v a.chains.now a.m _ a.action a.operand in
     rw (p.1, p.2)
     (record {
-      decision = refused a.z a.v _ a.action a.operand c.in_err-cause.field-0.0 k;
-      unasked = not_21 a.z a.v _ a.action a.operand c.in_err-cause.field-0.0 k;
+      decision = refused a.z v _ a.action a.operand c.in_err-cause.field-0.0 k;
+      unasked = not_21 a.z v _ a.action a.operand c.in_err-cause.field-0.0 k;
     })
 
 pub returns-then-done : goal.returns-then-done
 unfolding outcome number
 returns-then-done c =
     let a = c.args in
+    let none = c.in_ok-cause.ensures ∙ same_seen a.z a.v a.chains.now a.m _ a.action a.operand in
     record {
-      decision = breaks a.z a.v _ a.action a.operand c.act-done.result c.act-done.ensures c.in_ok-cause.ensures c.if-done.true;
+      decision = breaks a.z (looking a.chains.now a.m a.v) _ a.action a.operand c.act-done.result c.act-done.ensures none c.if-done.true;
       unasked = refl;
     }
 
@@ -68,4 +76,5 @@ pub returns : goal.returns
 unfolding outcome
 returns c =
     let a = c.args in
-    record { decision = makes a.z a.v _ a.action a.operand c.act-done.result c.act-done.ensures c.in_ok-cause.ensures c.if-done.false; unasked = refl }
+    let none = c.in_ok-cause.ensures ∙ same_seen a.z a.v a.chains.now a.m _ a.action a.operand in
+    record { decision = makes a.z (looking a.chains.now a.m a.v) _ a.action a.operand c.act-done.result c.act-done.ensures none c.if-done.false; unasked = refl }

@@ -9,7 +9,7 @@ use lib.ListN.{get_or-eq_default}
 use borrow.Author.Tests.{ne_eqb}
 use Rattle.step.specs.declared.View.{View}
 use Rattle.step.specs.declared.Effect.{Effect}
-use Rattle.step.specs.Model.Moves.{outcome, writers, line_outcome, line_effect, effects, stay}
+use Rattle.step.specs.Model.Moves.{outcome, looking, writers, line_outcome, line_effect, at_CI3, effects, stay}
 use Rattle.step.proofs.line.line.Goals as goal
 
 at_app : (t : ℕ) (v : View) → v.proc.position ≡ 0 → outcome false false (stay v) ≡ line_outcome t v
@@ -32,6 +32,10 @@ no_line t v h =
 
 pub returns-in_default : goal.returns-in_default
 returns-in_default c =
-    let v = c.args.v in
+    let v = looking c.args.chains.now c.args.m c.args.v in
     rw (c.keeps-in_default.ensures, c.stays.ensures)
     (elim (ℕ_discrete v.proc.position 0) [ yes e ↦ at_app c.args.t v e | no e ↦ no_line c.args.t v (omega arith) ])
+
+pub returns-in-2 : goal.returns-in-2
+unfolding line_outcome line_effect at_CI3
+returns-in-2 c = rw (c.keeps-in-2.ensures, c.ci3.ensures, c.in-2.is)

@@ -14,7 +14,7 @@ use Rattle.state.proofs.Refused.{not_none}
 use Rattle.step.specs.declared.View.{View}
 use Rattle.step.specs.declared.Sizes.{Sizes}
 use Rattle.step.specs.declared.Decision as code
-use Rattle.step.specs.Model.Moves.{target_of, move_view, sizes_of, owns_none, up_to, decided, decision}
+use Rattle.step.specs.Model.Moves.{target_of, unlooked, looking, move_view, sizes_of, owns_none, up_to, decided, decision}
 use Rattle.step.proofs.InPlace.{stands, owner_stays, goes_free, free, at, parts, stays, unwritten, goes}
 use Rattle.step.proofs.moves.make.Goals as goal
 use Rattle.step.proofs.moves.make.Goals.{then-done, else-done, else-action-eq5-via-then-action-eq5+else-not-owns_none, else-action-eq5-via-else-action-eq5}
@@ -31,6 +31,10 @@ module _ (s : State) (p a o : ℕ) (v : View) (v-is : v ≡ move_view s p a o) w
   asks : (b : Bool) → b ≡ owns_none s.mutexes s.m v.proc.current → b ≡ free s p a o
   asks b e = e ∙ ap (λ (q : View). owns_none s.mutexes s.m q.proc.current) v-is
 
+-- what is seen with a look into the queues
+seen : (s : State) (p a o : ℕ) (v : View) → v ≡ unlooked (move_view s p a o) → (m : ℕ) → m ≡ target_of a v.proc.mutex o → looking s.chains m v ≡ move_view s p a o
+seen s p a o v v-is m m-is = rw (m-is, v-is)
+
 -- one more, or the same at the largest number
 capped : (n : ℕ) → n ≤ 65535 → min (n + 1) (2 ^ 16 - 1) ≡ up_to 65535 n
 capped n h = by (ltb n 65535) refl
@@ -45,9 +49,11 @@ returns-in_err-done c =
     let t = err_from_is_err_and c.from_residual.result c.from_residual.ensures.1 in
     let a = c.args in
     let s = a.s.now in
+    let v = looking s.chains c.target-m.result c.look-v.result in
+    let v-is = seen s a.p a.action a.operand c.look-v.result c.look-v.ensures c.target-m.result c.target-m.ensures in
     let e = c.in_err-done.field-0.0 in
-    let m = target_is s a.p a.action a.operand c.look-v.result c.look-v.ensures c.target-m.result c.target-m.ensures in
-    let d = at_home s a.p a.action a.operand c.look-v.result c.look-v.ensures c.sizes-z.result c.sizes-z.ensures (Err e) c.in_err-done.ensures.decision in
+    let m = target_is s a.p a.action a.operand v v-is c.target-m.result c.target-m.ensures in
+    let d = at_home s a.p a.action a.operand v v-is c.sizes-z.result c.sizes-z.ensures (Err e) c.in_err-done.ensures.decision in
     rw (t.1, t.2) (stays s a.p a.action a.operand _ d (number e) (stands (free s a.p a.action a.operand) (number e) c.in_err-done.ensures.unasked) (not_none e))
 
 pub returns-then-not-owns_none : goal.returns-then-not-owns_none
@@ -55,9 +61,11 @@ unfolding outcome number decided
 returns-then-not-owns_none c =
     let a = c.args in
     let s = a.s.now in
-    let m = target_is s a.p a.action a.operand c.look-v.result c.look-v.ensures c.target-m.result c.target-m.ensures in
-    let d = at_home s a.p a.action a.operand c.look-v.result c.look-v.ensures c.sizes-z.result c.sizes-z.ensures (Ok c.in_ok-done.done) c.in_ok-done.ensures.decision in
-    let owns = asks s a.p a.action a.operand c.look-v.result c.look-v.ensures c.owns_none.result c.owns_none.ensures in
+    let v = looking s.chains c.target-m.result c.look-v.result in
+    let v-is = seen s a.p a.action a.operand c.look-v.result c.look-v.ensures c.target-m.result c.target-m.ensures in
+    let m = target_is s a.p a.action a.operand v v-is c.target-m.result c.target-m.ensures in
+    let d = at_home s a.p a.action a.operand v v-is c.sizes-z.result c.sizes-z.ensures (Ok c.in_ok-done.done) c.in_ok-done.ensures.decision in
+    let owns = asks s a.p a.action a.operand v v-is c.owns_none.result c.owns_none.ensures in
     let owner = owner_stays (free s a.p a.action a.operand) a.action c.if-action-eq5.true (sym owns ∙ c.if-not-owns_none.true) in
     stays s a.p a.action a.operand _ d 21 owner (λ e. omega arith)
 
@@ -66,13 +74,15 @@ unfolding outcome decided
 returns c =
     let a = c.args in
     let s = a.s.now in
-    let m = target_is s a.p a.action a.operand c.look-v.result c.look-v.ensures c.target-m.result c.target-m.ensures in
-    let d = at_home s a.p a.action a.operand c.look-v.result c.look-v.ensures c.sizes-z.result c.sizes-z.ensures (Ok c.in_ok-done.done) c.in_ok-done.ensures.decision in
+    let v = looking s.chains c.target-m.result c.look-v.result in
+    let v-is = seen s a.p a.action a.operand c.look-v.result c.look-v.ensures c.target-m.result c.target-m.ensures in
+    let m = target_is s a.p a.action a.operand v v-is c.target-m.result c.target-m.ensures in
+    let d = at_home s a.p a.action a.operand v v-is c.sizes-z.result c.sizes-z.ensures (Ok c.in_ok-done.done) c.in_ok-done.ensures.decision in
     let e = c.in_ok-done.done.effect in
     let none = goes_free (free s a.p a.action a.operand) a.action
     (elim c.else-action-eq5.branch [
       | else-action-eq5-via-then-action-eq5+else-not-owns_none w ↦
-          λ five. sym (asks s a.p a.action a.operand c.look-v.result c.look-v.ensures w.owns_none.result w.owns_none.ensures) ∙ w.if-not-owns_none.false
+          λ five. sym (asks s a.p a.action a.operand v v-is w.owns_none.result w.owns_none.ensures) ∙ w.if-not-owns_none.false
       | else-action-eq5-via-else-action-eq5 w ↦ λ five. absurd (w.if-action-eq5.false five)
     ])
     in
