@@ -1,6 +1,7 @@
 -- Laws of pictures.
 pub mod Over
 pub mod Rows
+pub mod Tables
 pub mod Parts
 pub mod Records
 pub mod ReadBack

@@ -5,10 +5,9 @@ ghost use Rattle.reference.specs.Lists.{tabulate};
 ghost use Rattle.picture.specs.Picture.{processor_field, mutex_field, thread_field, from_record, one_of};
 ghost use Rattle.picture.specs.Model.Parts.{over, rows, processor_bytes, mutex_bytes, thread_bytes};
 
-use state::access::{Zero, at};
+use state::access::{Zero, at, put};
 use state::layout::Width;
 use state::{Mutex, Processor, Thread, Token};
-use std::array;
 
 // A kind of record: how wide it is, and how it is read and written. `first`: that of its own queue, which is in the record too.
 pub(crate) trait Row: Zero {
@@ -185,22 +184,15 @@ pub(crate) fn record<T: Row>(b: &[u8], i: u8) -> &[u8]
     from(b, T::WIDTH * (i.saturating_sub(1) as usize))
 }
 
-// The i-th of n records, or zero.
-fn entry<T: Row>(b: &[u8], n: u8, i: usize) -> T
-    ensures { result ≡ one_of n i (T.field (from_record T.WIDTH b.now i)) T.zero }
-{
-    if 1 <= i && i <= n as usize {
-        T::read(record::<T>(b, i as u8))
-    } else {
-        T::zero()
-    }
-}
-
 // The table of n records.
 pub(crate) fn table<T: Row, const N: usize>(b: &[u8], n: u8) -> [T; N]
     ensures { result ≡ tabulate (λ i. one_of n i (T.field (from_record T.WIDTH b.now i)) T.zero) 0 N }
 {
-    array::from_fn(|i| entry::<T>(b, n, i))
+    let mut all = [T::zero(); N];
+    for i in 0..n {
+        put(&mut all, i as usize + 1, T::read(record::<T>(b, i + 1)));
+    }
+    all
 }
 
 // The records 1 to n one after the other, where they fit, each with its first.

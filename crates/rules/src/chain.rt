@@ -42,14 +42,6 @@ impl ThreadTable for &[u8] {
             return Thread::zero();
         }
         let i = Width::THREAD * (k as usize - 1);
-        // the record is there whole, as each of a picture is; cut short, what is missing is 0
-        if i + 2 < self.len() {
-            return Thread {
-                status: self[i],
-                holder: self[i + 1],
-                next: self[i + 2],
-            };
-        }
         Thread {
             status: at(self, i),
             holder: at(self, i + 1),
@@ -100,8 +92,8 @@ fn walk<T: ThreadTable>(threads: T, q: u8, first: u8, most: u8, before: u64) -> 
             break;
         }
         let x = threads.thread(k);
-        let misplaced = !placed_in(x, q);
         let twice = has_bit(met, k);
+        let misplaced = !placed_in(x, q);
         if twice | misplaced {
             return Walked {
                 met,
